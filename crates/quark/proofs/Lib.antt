@@ -1,0 +1,3 @@
+-- The samples and the laws of the definition.
+pub mod Samples
+pub mod MoreSamples

@@ -1,0 +1,84 @@
+-- The starred lines of document 01, "Sample values": one list of facts about the definition, proved together by computation.
+-- Assumes nothing.
+use mathlib.Core.List.{List, [], _∷_}
+use mathlib.Core.Path.{_≡_, refl}
+use Prim.Native.Nat.{ℕ, zero, suc, _*_, _/_}
+use lib.ListN.{replicate, set}
+use Rattle.quark.specs.Bytes.{bit}
+use Rattle.quark.specs.Feedback.{f, g, h, p, feedback, exchange, sumAt}
+use Rattle.quark.specs.Step.{Registers, shift, stepL, step, stepsL, allOnes, rounds}
+use Rattle.quark.specs.Inverse.{unshift, gained, undoStepL, undoStep}
+use Rattle.quark.specs.Instance.{Instance, U, D, S}
+use Rattle.quark.specs.Sponge.{pad, blockCount}
+
+-- every bit of a register is v
+abbrev all : ℕ → ℕ → ℕ
+all v i = v
+
+-- only bit k is 1
+abbrev pub only : ℕ → ℕ → ℕ
+only k i = bit (set (replicate 128 0) k 1) i
+
+-- only bits j and k are 1
+abbrev pub both : ℕ → ℕ → ℕ → ℕ
+both j k i = bit (set (set (replicate 128 0) j 1) k 1) i
+
+-- U's registers: all zero, with L all ones
+abbrev zeros : Registers
+zeros = record { X = replicate 68 0; Y = replicate 68 0; L = replicate 10 1 }
+
+abbrev blocks : Instance → ℕ → ℕ
+blocks I bits = blockCount I (replicate bits 0)
+
+pub starred :
+    -- f and g on all ones: 0
+    (f (U .taps) (all 1) ≡ 0) × (g (U .taps) (all 1) ≡ 0)
+    × (f (D .taps) (all 1) ≡ 0) × (g (D .taps) (all 1) ≡ 0)
+    × (f (S .taps) (all 1) ≡ 0) × (g (S .taps) (all 1) ≡ 0)
+    -- U, f with only X15: 0; only X14: 1; X9 and X15: 0
+    × (f (U .taps) (only 15) ≡ 0) × (f (U .taps) (only 14) ≡ 1) × (f (U .taps) (both 9 15) ≡ 0)
+    -- h on all ones, L0 = 1 then 0: U 0, 1; D 1, 0; S 0, 1
+    × (h (U .taps) (all 1) (all 1) (all 1) ≡ 0) × (h (U .taps) (all 1) (all 1) (all 0) ≡ 1)
+    × (h (D .taps) (all 1) (all 1) (all 1) ≡ 1) × (h (D .taps) (all 1) (all 1) (all 0) ≡ 0)
+    × (h (S .taps) (all 1) (all 1) (all 1) ≡ 0) × (h (S .taps) (all 1) (all 1) (all 0) ≡ 1)
+    -- all-zero U, L all ones, one step: only X67 and Y67 are 1, L is 1111111110; undone, it is the start
+    × (step (U .taps) zeros ≡ record {
+      X = set (replicate 68 0) 67 1;
+      Y = set (replicate 68 0) 67 1;
+      L = 1 ∷ 1 ∷ 1 ∷ 1 ∷ 1 ∷ 1 ∷ 1 ∷ 1 ∷ 1 ∷ 0 ∷ [];
+    })
+    × (undoStep (U .taps) (step (U .taps) zeros) ≡ zeros)
+    -- L after 10 steps from all ones: 0000000111
+    × (stepsL 10 allOnes ≡ 0 ∷ 0 ∷ 0 ∷ 0 ∷ 0 ∷ 0 ∷ 0 ∷ 1 ∷ 1 ∷ 1 ∷ [])
+    -- blocks: U 0 bits 1, 7 bits 1, 8 bits 2; D 15 bits 1, 16 bits 2; S 31 bits 1, 32 bits 2
+    × (blocks U 0 ≡ 1) × (blocks U 7 ≡ 1) × (blocks U 8 ≡ 2)
+    × (blocks D 15 ≡ 1) × (blocks D 16 ≡ 2)
+    × (blocks S 31 ≡ 1) × (blocks S 32 ≡ 2)
+unfolding f g h p feedback exchange sumAt shift stepL step stepsL allOnes unshift gained undoStepL undoStep U D S pad blockCount
+starred = (
+  refl,
+  refl,
+  refl,
+  refl,
+  refl,
+  refl,
+  refl,
+  refl,
+  refl,
+  refl,
+  refl,
+  refl,
+  refl,
+  refl,
+  refl,
+  refl,
+  refl,
+  refl,
+  refl,
+  refl,
+  refl,
+  refl,
+  refl,
+  refl,
+  refl,
+)
