@@ -1,3 +1,9 @@
 -- The samples and the laws of the definition.
 pub mod Samples
 pub mod MoreSamples
+pub mod Word
+pub mod Mask
+pub mod Bits
+pub mod Taps
+pub mod Feedback
+pub mod Together

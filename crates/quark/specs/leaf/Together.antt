@@ -1,0 +1,30 @@
+-- Several steps together: each register moves down by w, and its w new bits come from the old registers, the bit of step j from the taps
+-- moved up by j. Only the contracts of private functions and the laws cite these forms. Assumes nothing.
+use mathlib.Core.List.{_++_}
+use Prim.Native.Nat.{ℕ, _+_, _%_}
+use lib.ListN.{drop}
+use Rattle.quark.specs.Bytes.{bit, tabulate}
+use Rattle.quark.specs.Feedback.{Taps, f, g, h}
+use Rattle.quark.specs.Step.{Registers, stepsL}
+
+-- the bits of a register from place j on
+abbrev pub from : ℕ → (ℕ → ℕ) → ℕ → ℕ
+from j X i = X (j + i)
+
+-- what X gains in a step, and what Y gains
+unfoldable pub gainX : Taps → (X Y L : ℕ → ℕ) → ℕ
+gainX T X Y L = (Y 0 + f T X + h T X Y L) % 2
+
+unfoldable pub gainY : Taps → (X Y L : ℕ → ℕ) → ℕ
+gainY T X Y L = (g T Y + h T X Y L) % 2
+
+-- what a register gains in step j, of the old X and Y and of L after j steps
+unfoldable pub gains : (Taps → (X Y L : ℕ → ℕ) → ℕ) → Taps → Registers → ℕ → ℕ
+gains gain T s j = gain T (from j (bit (s .X))) (from j (bit (s .Y))) (bit (stepsL j (s .L)))
+
+unfoldable pub moved : Taps → ℕ → Registers → Registers
+moved T w s = record {
+  X = drop w (s .X) ++ tabulate w (gains gainX T s);
+  Y = drop w (s .Y) ++ tabulate w (gains gainY T s);
+  L = stepsL w (s .L);
+}
