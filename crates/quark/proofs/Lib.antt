@@ -7,3 +7,4 @@ pub mod Bits
 pub mod Taps
 pub mod Feedback
 pub mod Together
+pub mod Inverse
