@@ -4,7 +4,12 @@ pub mod MoreSamples
 pub mod Word
 pub mod Mask
 pub mod Bits
+pub mod Tests
 pub mod Taps
 pub mod Feedback
 pub mod Together
 pub mod Inverse
+pub mod Bytes
+pub mod Instance
+pub mod Padding
+pub mod Runs

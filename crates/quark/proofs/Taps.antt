@@ -10,6 +10,7 @@ use lib.Dec.{T, leb, ltb, eqb, leb→le, eqb→eq}
 use lib.ListN.{length, getD, drop, set}
 use Rattle.quark.specs.Feedback.{Taps}
 use Rattle.quark.specs.Instance.{U, D, S}
+use Rattle.quark.proofs.Tests.{both, every, each}
 
 -- ---- every element of a list has a property
 
@@ -83,31 +84,12 @@ check : (ℕ → Bool) → List ℕ → Bool
 check q [] = true
 check q (t ∷ ts) = q t && check q ts
 
-both : (a b : Bool) → T (a && b) → T a × T b
-both true b t = (tt, t)
-both false b t = absurd t
-
 checked : (q : ℕ → Bool) (F : ℕ → Type 0) → ((t : ℕ) → T (q t) → F t) → (ts : List ℕ) → T (check q ts) → All F ts
 unfolding check
 checked q F m [] c = tt
 checked q F m (t ∷ ts) c =
     let c′ = both (q t) (check q ts) c in
     (m t (c′ .0), checked q F m ts (c′ .1))
-
--- all of some tests
-abbrev every : List Bool → Bool
-every [] = true
-every (b ∷ bs) = b && every bs
-
-abbrev Every : List Bool → Type 0
-Every [] = Unit {0}
-Every (b ∷ bs) = T b × Every bs
-
-each : (bs : List Bool) → T (every bs) → Every bs
-each [] t = tt
-each (b ∷ bs) t =
-    let c = both b (every bs) t in
-    (c .0, each bs (c .1))
 
 above : ℕ → Bool
 above t = ltb 0 t

@@ -1,0 +1,92 @@
+-- The three instances are regular: their taps are lawful, a state is two halves and whole bytes, and the initial bits are b bits.
+-- Assumes nothing.
+use mathlib.Core.Bool.{Bool, true, false, cond}
+use mathlib.Core.List.{List, [], _∷_}
+use mathlib.Core.Path.{_≡_, sym, subst}
+use Prim.Native.Nat.{ℕ, zero, suc, _*_, _/_, _<_, _≤_}
+use lib.Dec.{T, leb, ltb, eqb, leb→le, eqb→eq}
+use Rattle.quark.specs.Step.{P}
+use Rattle.quark.specs.Inverse.{undoP}
+use Rattle.quark.specs.Instance.{Instance, U, D, S, instanceOf}
+use Rattle.quark.proofs.Bits.{Wide}
+use Rattle.quark.proofs.Bytes.{wide-bitsOf}
+use Rattle.quark.proofs.Inverse.{wide-P, wide-undoP, undo-P, redo-P}
+use Rattle.quark.proofs.Taps.{Lawful, lawful-U, lawful-D, lawful-S}
+use Rattle.quark.proofs.Tests.{every, each}
+
+pub record Regular (I : Instance) : Type 0 where
+  pub lawful : Lawful (I .taps)
+  pub two-halves : I .b ≡ 2 * I .taps .half
+  pub whole-bytes : I .b ≡ 8 * (I .b / 8)
+  pub at-most-256 : I .b ≤ 256
+  pub some-rate : 0 < I .r
+  pub rate-fits : I .r ≤ I .b
+  pub some-output : 0 < I .n / I .r
+  pub wide-initial : Wide (I .b) (I .initial)
+
+tests : Instance → List Bool
+tests I =
+    eqb (I .b) (2 * I .taps .half)
+    ∷ eqb (I .b) (8 * (I .b / 8))
+    ∷ leb (I .b) 256
+    ∷ ltb 0 (I .r)
+    ∷ leb (I .r) (I .b)
+    ∷ ltb 0 (I .n / I .r)
+    ∷ []
+
+tested : (I : Instance) → Lawful (I .taps) → Wide (I .b) (I .initial) → T (every (tests I)) → Regular I
+unfolding tests
+tested I lawful wide t =
+    let c = each (tests I) t in
+    record {
+      lawful = lawful;
+      two-halves = eqb→eq (I .b) (2 * I .taps .half) (c .0);
+      whole-bytes = eqb→eq (I .b) (8 * (I .b / 8)) (c .1 .0);
+      at-most-256 = leb→le (I .b) 256 (c .1 .1 .0);
+      some-rate = leb→le 1 (I .r) (c .1 .1 .1 .0);
+      rate-fits = leb→le (I .r) (I .b) (c .1 .1 .1 .1 .0);
+      some-output = leb→le 1 (I .n / I .r) (c .1 .1 .1 .1 .1 .0);
+      wide-initial = wide;
+    }
+
+regular-U : Regular U
+unfolding U tests
+regular-U = tested U (lawful-U .0) (wide-bitsOf 136 _) tt
+
+regular-D : Regular D
+unfolding D tests
+regular-D = tested D (lawful-D .0) (wide-bitsOf 176 _) tt
+
+regular-S : Regular S
+unfolding S tests
+regular-S = tested S (lawful-S .0) (wide-bitsOf 256 _) tt
+
+-- a fact of U, of D and of S is a fact of the instance of every number
+pub of-each {ℓ} : (F : Instance → Type ℓ) → F U → F D → F S → (i : ℕ) → F (instanceOf i)
+unfolding instanceOf
+of-each F u d s i = first (eqb i 1) (eqb i 2)
+  where
+    first : (one two : Bool) → F (cond one U (cond two D S))
+    first true two = u
+    first false true = d
+    first false false = s
+
+pub regular : (i : ℕ) → Regular (instanceOf i)
+regular = of-each Regular regular-U regular-D regular-S
+
+-- P and its inverse, on the b bits of a regular instance
+module _ (I : Instance) (R : Regular I) (s : List ℕ) (w : Wide (I .b) s) where
+  halves : Wide (2 * I .taps .half) s
+  halves = subst (λ (b : ℕ). Wide b s) (R .two-halves) w
+
+  pub P-wide : Wide (I .b) (P (I .taps) s)
+  P-wide = subst (λ (b : ℕ). Wide b (P (I .taps) s)) (sym (R .two-halves)) (wide-P (I .taps) (R .lawful) s halves)
+
+  pub undoP-wide : Wide (I .b) (undoP (I .taps) s)
+  undoP-wide = subst (λ (b : ℕ). Wide b (undoP (I .taps) s)) (sym (R .two-halves)) (wide-undoP (I .taps) (R .lawful) s halves)
+
+  pub undoP-P : undoP (I .taps) (P (I .taps) s) ≡ s
+  undoP-P = undo-P (I .taps) (R .lawful) s halves
+
+  pub P-undoP : P (I .taps) (undoP (I .taps) s) ≡ s
+  P-undoP = redo-P (I .taps) (R .lawful) s halves

@@ -1,0 +1,68 @@
+-- Padding, for any rate above 0: a padded form is total div r + 1 whole blocks, has as few zeros as make it so, and comes from one message
+-- alone. Assumes nothing.
+use mathlib.Core.List.{List, [], _∷_, _++_}
+use mathlib.Core.Path.{_≡_, refl, sym, ap, ap₂, _∙_}
+use Prim.Native.Nat.{ℕ, zero, suc, _+_, _*_, _-_, _/_, _%_, _<_, _≤_}
+use native.Mathlib.Nat.{suc-ne-zero, mod-lt, div-add-mod', mul-mod-left, mul-div-cancel, mul-add-mod-self-right, mod-eq-of-lt}
+use native.Mathlib.Omega.{arith}
+use lib.ListN.{length, replicate, length-append, length-replicate}
+use Rattle.quark.specs.Instance.{Instance}
+use Rattle.quark.specs.Sponge.{pad, blockCount}
+use Rattle.quark.proofs.Bits.{Bits, none, more, bits-append, bits-replicate}
+
+head-eq : {x y : ℕ} {xs ys : List ℕ} → x ∷ xs ≡ y ∷ ys → x ≡ y
+head-eq e = cc
+
+tail-eq : {x y : ℕ} {xs ys : List ℕ} → x ∷ xs ≡ y ∷ ys → xs ≡ ys
+tail-eq e = cc
+
+-- zeros alone hold no 1
+no-one : (m : List ℕ) (z z′ : ℕ) → replicate z 0 ≡ m ++ (1 ∷ replicate z′ 0) → ⊥
+no-one [] zero z′ e = suc-ne-zero (length (replicate z′ 0)) (sym (ap length e))
+no-one [] (suc z) z′ e = suc-ne-zero 0 (sym (head-eq e))
+no-one (x ∷ m) zero z′ e = suc-ne-zero (length (m ++ (1 ∷ replicate z′ 0))) (sym (ap length e))
+no-one (x ∷ m) (suc z) z′ e = no-one m z z′ (tail-eq e)
+
+-- the last 1 tells where the message ends
+unpad : (m m′ : List ℕ) (z z′ : ℕ) → m ++ (1 ∷ replicate z 0) ≡ m′ ++ (1 ∷ replicate z′ 0) → m ≡ m′
+unpad [] [] z z′ e = refl
+unpad [] (y ∷ m′) z z′ e = absurd (no-one m′ z z′ (tail-eq e))
+unpad (x ∷ m) [] z z′ e = absurd (no-one m z′ z (sym (tail-eq e)))
+unpad (x ∷ m) (y ∷ m′) z z′ e = ap₂ (λ (a : ℕ) (l : List ℕ). a ∷ l) (head-eq e) (unpad m m′ z z′ (tail-eq e))
+
+module _ (I : Instance) where
+  pub pad-injective : (m m′ : List ℕ) → pad I m ≡ pad I m′ → m ≡ m′
+  unfolding pad
+  pad-injective m m′ e = unpad m m′ (I .r - 1 - length m % I .r) (I .r - 1 - length m′ % I .r) e
+
+  pub bits-pad : (m : List ℕ) → Bits m → Bits (pad I m)
+  unfolding pad
+  bits-pad m b = bits-append b (more (omega arith) (bits-replicate (I .r - 1 - length m % I .r) (omega arith)))
+
+  length-parts : (m : List ℕ) → length (pad I m) ≡ length m + 1 + (I .r - 1 - length m % I .r)
+  unfolding pad
+  length-parts m =
+      let z = I .r - 1 - length m % I .r in
+      length-append m (1 ∷ replicate z 0) ∙ ap (λ (k : ℕ). length m + suc k) (length-replicate z 0) ∙ omega arith
+
+  module _ (some-rate : 0 < I .r) (m : List ℕ) where
+    pub length-pad : length (pad I m) ≡ (length m / I .r + 1) * I .r
+    length-pad = length-parts m ∙ omega (arith, div-add-mod' (length m) (I .r), mod-lt (length m) some-rate)
+
+    -- line 8 of document 01 never holds
+    pub pad-whole : length (pad I m) % I .r ≡ 0
+    pad-whole = ap (λ (k : ℕ). k % I .r) length-pad ∙ mul-mod-left (length m / I .r + 1) (I .r)
+
+    pub block-count : blockCount I m ≡ length m / I .r + 1
+    unfolding blockCount
+    block-count = ap (λ (k : ℕ). k / I .r) length-pad ∙ mul-div-cancel (length m / I .r + 1) some-rate
+
+    -- fewer zeros do not reach a multiple of r
+    pub pad-least : (z : ℕ) → z < I .r - 1 - length m % I .r → (length m + 1 + z) % I .r ≡ 0 → ⊥
+    pad-least z less e =
+        let k = length m % I .r in
+        let q = length m / I .r in
+        let whole : length m + 1 + z ≡ q * I .r + (k + 1 + z) = omega (arith, div-add-mod' (length m) (I .r)) in
+        let left : (length m + 1 + z) % I .r ≡ k + 1 + z =
+        ap (λ (n : ℕ). n % I .r) whole ∙ mul-add-mod-self-right q (I .r) (k + 1 + z) ∙ mod-eq-of-lt (omega arith) in
+        omega arith
