@@ -3,7 +3,7 @@ use mathlib.Core.List.{List, [], _∷_, _++_}
 use mathlib.Core.Path.{_≡_}
 use Prim.Native.Nat.{ℕ, zero, suc, _%_, _<_}
 use native.Mathlib.Omega.{arith}
-use lib.ListN.{length, take, drop, replicate, set}
+use lib.ListN.{length, take, drop, replicate}
 use Rattle.quark.specs.Bytes.{bit, tabulate}
 
 pub data Bits : List ℕ → Type 0 where

@@ -2,17 +2,17 @@
 -- Steps, P and their inverses keep lengths and bits. Assumes nothing.
 use mathlib.Core.List.{List, [], _∷_, _++_}
 use mathlib.Core.Path.{_≡_, refl, sym, ap, ap₂, _∙_}
-use Prim.Native.Nat.{ℕ, zero, suc, _+_, _*_, _-_, _%_, _<_, _≤_}
+use Prim.Native.Nat.{ℕ, zero, suc, _+_, _*_, _-_, _%_, _<_}
 use native.Mathlib.Nat.{not-suc-le-zero}
 use native.Mathlib.Omega.{arith}
-use lib.ListN.{List·getD-append, length, getD, take, drop, replicate, length-append, length-take, length-drop, take-append-drop}
+use lib.ListN.{List·getD-append, length, take, length-append, length-take, length-drop, take-append-drop}
 use lib.Seq.{take-at, drop-at, getD-at, getD-take, take-suc, take-all}
 use Rattle.quark.specs.Bytes.{bit}
 use Rattle.quark.specs.Feedback.{Taps, f, g, h, p}
 use Rattle.quark.specs.Step.{Registers, shift, stepL, step, steps, stepsL, allOnes, loaded, stored, rounds, P}
 use Rattle.quark.specs.Inverse.{unshift, gained, undoStepL, undoStep, undoSteps, undoP}
 use Rattle.quark.specs.leaf.Together.{gainX, gainY}
-use Rattle.quark.proofs.Bits.{Bits, none, more, Wide, parity-lt, bits-append, bits-take, bits-drop, bits-at, bits-replicate}
+use Rattle.quark.proofs.Bits.{none, more, Wide, parity-lt, bits-append, bits-take, bits-drop, bits-at, bits-replicate}
 use Rattle.quark.proofs.Taps.{Lawful}
 use Rattle.quark.proofs.Feedback.{f-zero, g-zero, h-zero}
 use Rattle.quark.proofs.Together.{registers-path, steps-L}

@@ -1,6 +1,6 @@
 -- The sum of the linear taps is the parity of the ones under a mask (document 01, "Taps and feedback"). Assumes nothing.
-use mathlib.Core.Path.{_≡_, refl, sym, ap, ap₂, _∙_}
-use mathlib.Core.List.{List, [], _∷_}
+use mathlib.Core.Path.{_≡_, sym, ap, ap₂, _∙_}
+use mathlib.Core.List.{List}
 use Prim.Native.Nat.{ℕ, zero, suc, _+_, _*_, _/_, _%_, _^_, _<_}
 use native.Mathlib.Nat.{mod-lt, zero-lt-suc, mul-zero, mul-one, zero-add, div-div-eq-div-mul, pow-suc, div-one}
 use native.Mathlib.Numerals.{add-one}

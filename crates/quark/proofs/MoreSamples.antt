@@ -1,7 +1,7 @@
 -- Facts about the definition that the starred samples don't see, by computation. Assumes nothing.
-use mathlib.Core.List.{List, [], _∷_}
+use mathlib.Core.List.{[], _∷_}
 use mathlib.Core.Path.{_≡_, refl}
-use Prim.Native.Nat.{ℕ, zero, suc, _*_, _/_}
+use Prim.Native.Nat.{_*_, _/_}
 use lib.ListN.{take}
 use Rattle.quark.specs.Bytes.{tabulate, bitAt, bitsOf, byteAt, bytesOf}
 use Rattle.quark.specs.Feedback.{g, feedback, exchange}

@@ -2,13 +2,13 @@
 -- alone. Assumes nothing.
 use mathlib.Core.List.{List, [], _∷_, _++_}
 use mathlib.Core.Path.{_≡_, refl, sym, ap, ap₂, _∙_}
-use Prim.Native.Nat.{ℕ, zero, suc, _+_, _*_, _-_, _/_, _%_, _<_, _≤_}
+use Prim.Native.Nat.{ℕ, zero, suc, _+_, _*_, _-_, _/_, _%_, _<_}
 use native.Mathlib.Nat.{suc-ne-zero, mod-lt, div-add-mod', mul-mod-left, mul-div-cancel, mul-add-mod-self-right, mod-eq-of-lt}
 use native.Mathlib.Omega.{arith}
 use lib.ListN.{length, replicate, length-append, length-replicate}
 use Rattle.quark.specs.Instance.{Instance}
 use Rattle.quark.specs.Sponge.{pad, blockCount}
-use Rattle.quark.proofs.Bits.{Bits, none, more, bits-append, bits-replicate}
+use Rattle.quark.proofs.Bits.{Bits, more, bits-append, bits-replicate}
 
 head-eq : {x y : ℕ} {xs ys : List ℕ} → x ∷ xs ≡ y ∷ ys → x ≡ y
 head-eq e = cc

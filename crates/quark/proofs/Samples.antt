@@ -1,12 +1,12 @@
 -- The starred lines of document 01, "Sample values": one list of facts about the definition, proved together by computation.
 -- Assumes nothing.
-use mathlib.Core.List.{List, [], _∷_}
+use mathlib.Core.List.{[], _∷_}
 use mathlib.Core.Path.{_≡_, refl}
-use Prim.Native.Nat.{ℕ, zero, suc, _*_, _/_}
+use Prim.Native.Nat.{ℕ}
 use lib.ListN.{replicate, set}
 use Rattle.quark.specs.Bytes.{bit}
 use Rattle.quark.specs.Feedback.{f, g, h, p, feedback, exchange, sumAt}
-use Rattle.quark.specs.Step.{Registers, shift, stepL, step, stepsL, allOnes, rounds}
+use Rattle.quark.specs.Step.{Registers, shift, stepL, step, stepsL, allOnes}
 use Rattle.quark.specs.Inverse.{unshift, gained, undoStepL, undoStep}
 use Rattle.quark.specs.Instance.{Instance, U, D, S}
 use Rattle.quark.specs.Sponge.{pad, blockCount}

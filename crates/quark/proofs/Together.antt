@@ -1,15 +1,15 @@
 -- Several steps together, for any taps and any width w with every tap + w at most the half: w steps are the registers moved by w, with
 -- w new bits, each from the old registers. L goes its own way. Assumes nothing.
 use mathlib.Core.List.{List, [], _∷_, _++_, append-assoc, append-nil}
-use mathlib.Core.Path.{_≡_, refl, sym, ap, ap₂, _∙_}
-use Prim.Native.Nat.{ℕ, zero, suc, _+_, _*_, _%_, _<_, _≤_}
+use mathlib.Core.Path.{_≡_, refl, sym, ap, _∙_}
+use Prim.Native.Nat.{ℕ, zero, suc, _+_, _<_, _≤_}
 use native.Mathlib.Nat.{add-zero, add-suc, le-refl}
 use native.Mathlib.Numerals.{add-one}
 use native.Mathlib.Omega.{arith}
 use lib.ListN.{length, getD, drop, length-drop, List·getD-append}
 use lib.Seq.{drop-append-le, drop-drop, getD-drop}
 use Rattle.quark.specs.Bytes.{bit, tabulate}
-use Rattle.quark.specs.Feedback.{Taps, f, g, h}
+use Rattle.quark.specs.Feedback.{Taps, h}
 use Rattle.quark.specs.Step.{Registers, shift, stepL, step, steps, stepsL}
 use Rattle.quark.specs.leaf.Together.{from, gainX, gainY, gains, moved}
 use Rattle.quark.proofs.Taps.{all-at, Lawful, Reach}

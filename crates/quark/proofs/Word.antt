@@ -1,7 +1,7 @@
 -- Laws of a word's bits: `&`, `^`, shifts and remainders, at one bit and as a list. Assumes nothing.
 use mathlib.Core.Path.{_≡_, refl, sym, ap, ap₂, _∙_}
 use mathlib.Core.List.{List, [], _∷_, _++_}
-use Prim.Native.Nat.{ℕ, zero, suc, _+_, _*_, _-_, _/_, _%_, _^_, _<_, _≤_, min}
+use Prim.Native.Nat.{ℕ, zero, suc, _+_, _*_, _-_, _/_, _%_, _^_, _<_, min}
 use native.Mathlib.Nat.{mod-lt, mod-eq-of-lt, zero-lt-suc, zero-min, zero-mul, mul-comm, mul-one, zero-add, suc-add, add-zero, add-comm, mul-add-mod-self-right, div-div-eq-div-mul, div-one, pow-suc, mod-mod, lt-of-le-of-lt, min-le-left, div-lt-iff-lt-mul, le-of-suc-le-suc, not-suc-le-zero}
 use native.Mathlib.Omega.{arith}
 use lib.Arith.{lt-one, digits-div, digits-mod}
