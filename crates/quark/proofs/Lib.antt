@@ -13,3 +13,6 @@ pub mod Bytes
 pub mod Instance
 pub mod Padding
 pub mod Runs
+pub mod Sums
+pub mod Blocks
+pub mod CloseAlike

@@ -6,4 +6,5 @@ pub mod Step
 pub mod Inverse
 pub mod Instance
 pub mod Sponge
+pub mod CloseAlike
 pub mod leaf
