@@ -39,7 +39,7 @@ module _ (I : Instance) where
   unfolding pad
   bits-pad m b = bits-append b (more (omega arith) (bits-replicate (I .r - 1 - length m % I .r) (omega arith)))
 
-  length-parts : (m : List ℕ) → length (pad I m) ≡ length m + 1 + (I .r - 1 - length m % I .r)
+  pub length-parts : (m : List ℕ) → length (pad I m) ≡ length m + 1 + (I .r - 1 - length m % I .r)
   unfolding pad
   length-parts m =
       let z = I .r - 1 - length m % I .r in

@@ -1,0 +1,117 @@
+-- Bits in cells and in words: the number that some cells hold, and the cells with a number's bits in them. Assumes nothing.
+use mathlib.Core.List.{List, [], _∷_, _++_, append-assoc}
+use mathlib.Core.Path.{_≡_, refl, sym, ap, ap₂, _∙_}
+use Prim.Native.Nat.{ℕ, zero, suc, _+_, _-_, _*_, _^_, _≤_, _<_}
+use native.Mathlib.Nat.{add-zero, add-suc, add-comm, add-assoc, zero-add, suc-add, pow-suc}
+use native.Mathlib.Omega.{arith}
+use lib.Arith.{digits-lt}
+use lib.ListN.{length, getD, take, drop, set, length-append, length-drop, take-append-drop}
+use lib.Pow.{pow-add}
+use lib.Seq.{drop-cons, set-at, length-take-le, drop-drop, drop-at, take-at}
+use Rattle.quark.specs.Feedback.{Taps}
+use Rattle.quark.specs.Step.{loaded, stored}
+use Rattle.quark.specs.leaf.Word.{wordBit, wordBits}
+use Rattle.quark.proofs.Together.{registers-path}
+use Rattle.quark.proofs.Word.{length-wordBits, append-wordBits, cons-wordBits, snoc-wordBits}
+use Rattle.permutation.specs.leaf.Words.{written, held}
+
+-- r holds the k bits of s from place p on
+abbrev pub Holds : List ℕ → (k p r : ℕ) → Type 0
+Holds s k p r = (r < 2 ^ k) × (wordBits k r ≡ take k (drop p s))
+
+pub holds-none : (s : List ℕ) (p : ℕ) → Holds s 0 p 0
+unfolding wordBits
+holds-none s p = (omega arith, refl)
+
+pub holds-more : (s : List ℕ) (k p r : ℕ) → p < length s → getD s p 0 < 2 → Holds s k (suc p) r → Holds s (suc k) p (r * 2 + getD s p 0)
+holds-more s k p r h b i = (
+  rw pow-suc (digits-lt (i .0) b),
+  cons-wordBits k r (getD s p 0) b ∙ ap (λ (l : List ℕ). getD s p 0 ∷ l) (i .1) ∙ sym (ap (take (suc k)) (drop-cons s p 0 h)),
+)
+
+pub written-none : (s : List ℕ) (word p : ℕ) → s ≡ written s p 0 word
+unfolding wordBits
+written-none s word p = sym (take-append-drop p s) ∙ ap (λ (q : ℕ). take p s ++ drop q s) (sym (add-zero p))
+
+pub written-more : (s : List ℕ) (word p i : ℕ) → p + i < length s → set (written s p i word) (p + i) (wordBit word i) ≡ written s p (suc i) word
+written-more s word p i h =
+    let a : List ℕ = take p s in
+    let b : List ℕ = wordBits i word in
+    let v : ℕ = wordBit word i in
+    let l : length (a ++ b) ≡ p + i =
+    length-append a b ∙ ap₂ (λ (x y : ℕ). x + y) (length-take-le p s (omega arith)) (length-wordBits i word) in
+    ap (λ (t : List ℕ). set (a ++ (b ++ t)) (p + i) v) (drop-cons s (p + i) 0 h)
+    ∙ ap (λ (t : List ℕ). set t (p + i) v) (sym (append-assoc a b (getD s (p + i) 0 ∷ drop (suc (p + i)) s)))
+    ∙ set-at (a ++ b) (getD s (p + i) 0) (drop (suc (p + i)) s) v (p + i) l
+    ∙ append-assoc a b (v ∷ drop (suc (p + i)) s)
+    ∙ ap (λ (t : List ℕ). a ++ t) (sym (append-assoc b (v ∷ []) (drop (suc (p + i)) s)))
+    ∙ ap₂ (λ (t : List ℕ) (q : ℕ). a ++ (t ++ drop q s)) (sym (snoc-wordBits i word)) (sym (add-suc p i))
+
+-- the digits of two words, the lower of a digits
+pub words-append : (a c hi lo : ℕ) → lo < 2 ^ a → wordBits (a + c) (hi * 2 ^ a + lo) ≡ wordBits a lo ++ wordBits c hi
+words-append a c hi lo h = sym (append-wordBits a c lo hi h)
+
+nothing : (n : ℕ) → take {A = ℕ} n [] ≡ []
+nothing zero = refl
+nothing (suc n) = refl
+
+take-take-drop : (a c : ℕ) (s : List ℕ) → take a s ++ take c (drop a s) ≡ take (a + c) s
+take-take-drop zero c s = ap (λ (n : ℕ). take n s) (sym (zero-add c))
+take-take-drop (suc a) c [] = nothing c ∙ sym (nothing (suc a + c))
+take-take-drop (suc a) c (v ∷ s) = ap (λ (l : List ℕ). v ∷ l) (take-take-drop a c s) ∙ ap (λ (n : ℕ). take n (v ∷ s)) (sym (suc-add a c))
+
+-- two words that hold a bits and the c bits behind them hold both
+pub holds-words : (s : List ℕ) (a c p hi lo : ℕ) → Holds s a p lo → Holds s c (p + a) hi → Holds s (a + c) p (hi * 2 ^ a + lo)
+holds-words s a c p hi lo hl hh = (
+  rw (add-comm a c, pow-add) (digits-lt (hh .0) (hl .0)),
+  words-append a c hi lo (hl .0)
+      ∙ ap₂ _++_ (hl .1) (hh .1 ∙ ap (take c) (sym (drop-drop a p s)))
+      ∙ take-take-drop a c (drop p s),
+)
+
+-- a bits of one word written, and c bits of another behind them
+pub written-words : (s : List ℕ) (a c p hi lo : ℕ) → p + (a + c) ≤ length s → lo < 2 ^ a
+    → written (written s p a lo) (p + a) c hi ≡ written s p (a + c) (hi * 2 ^ a + lo)
+written-words s a c p hi lo h b =
+    let f : List ℕ = take p s in
+    let w : List ℕ = wordBits a lo in
+    let r : List ℕ = drop (p + a) s in
+    let l : length (f ++ w) ≡ p + a = length-append f w ∙ ap₂ (λ (x y : ℕ). x + y) (length-take-le p s (omega arith)) (length-wordBits a lo) in
+    let j : f ++ (w ++ r) ≡ (f ++ w) ++ r = sym (append-assoc f w r) in
+    ap₂ (λ (x y : List ℕ). x ++ (wordBits c hi ++ y)) (ap (take (p + a)) j ∙ take-at (f ++ w) r (p + a) l)
+    (ap (drop (p + a + c)) j ∙ sym (drop-drop c (p + a) ((f ++ w) ++ r)) ∙ ap (drop c) (drop-at (f ++ w) r (p + a) l) ∙ drop-drop c (p + a) s)
+    ∙ append-assoc f w (wordBits c hi ++ drop (p + a + c) s)
+    ∙ ap (λ (x : List ℕ). f ++ x) (sym (append-assoc w (wordBits c hi) (drop (p + a + c) s)))
+    ∙ ap₂ (λ (x : List ℕ) (q : ℕ). f ++ (x ++ drop q s)) (append-wordBits a c lo hi b) (add-assoc p a c)
+
+-- writing keeps the length
+pub length-written : (s : List ℕ) (p n word : ℕ) → p + n ≤ length s → length (written s p n word) ≡ length s
+length-written s p n word h =
+    let e : length (wordBits n word ++ drop (p + n) s) ≡ n + (length s - (p + n)) =
+    length-append (wordBits n word) (drop (p + n) s) ∙ ap₂ (λ (x y : ℕ). x + y) (length-wordBits n word) (length-drop (p + n) s) in
+    length-append (take p s) (wordBits n word ++ drop (p + n) s) ∙ ap₂ (λ (x y : ℕ). x + y) (length-take-le p s (omega arith)) e ∙ omega arith
+
+-- a part of a part
+take-take : (a c : ℕ) (s : List ℕ) → a ≤ length s → take a (take (a + c) s) ≡ take a s
+take-take a c s h = ap (take a) (sym (take-take-drop a c s)) ∙ take-at (take a s) (take c (drop a s)) a (length-take-le a s h)
+
+drop-take : (a c : ℕ) (s : List ℕ) → a ≤ length s → drop a (take (a + c) s) ≡ take c (drop a s)
+drop-take a c s h = ap (drop a) (sym (take-take-drop a c s)) ∙ drop-at (take a s) (take c (drop a s)) a (length-take-le a s h)
+
+-- cells that hold X and then Y are the registers that the words hold
+pub loaded-held : (T : Taps) (s : List ℕ) (b x y l : ℕ) → b ≡ T .half + T .half → b ≤ length s → wordBits (T .half) x ≡ take (T .half) (drop 0 s)
+    → wordBits (T .half) y ≡ take (T .half) (drop (T .half) s) → loaded T (take b s) (wordBits 10 l) ≡ held T x y l
+unfolding loaded held
+loaded-held T s b x y l e h ex ey =
+    registers-path (ap (λ (n : ℕ). take (T .half) (take n s)) e ∙ take-take (T .half) (T .half) s (omega arith) ∙ sym ex)
+    (ap (λ (n : ℕ). drop (T .half) (take n s)) e ∙ drop-take (T .half) (T .half) s (omega arith) ∙ sym ey) refl
+
+-- the words written to the cells are the registers stored there
+pub stored-held : (T : Taps) (s : List ℕ) (b x y l : ℕ) → b ≡ T .half + T .half → b ≤ length s → x < 2 ^ T .half
+    → written (written s 0 (T .half) x) (T .half) (T .half) y ≡ stored (held T x y l) ++ drop b s
+unfolding stored held
+stored-held T s b x y l e h less =
+    let half = T .half in
+    ap (λ (n : ℕ). written (written s 0 half x) n half y) (sym (zero-add half))
+    ∙ written-words s half half 0 y x (rw zero-add (omega arith)) less
+    ∙ ap₂ (λ (r : List ℕ) (n : ℕ). r ++ drop n s) (words-append half half y x less) (zero-add (half + half) ∙ sym e)

@@ -1,0 +1,96 @@
+-- A number of two words of W digits, hi * 2 ^ W + lo: seen from a place on, and moved down with new digits behind. Assumes nothing.
+use mathlib.Core.Path.{_≡_, sym, ap, ap₂, _∙_, subst}
+use Prim.Native.Nat.{ℕ, zero, _+_, _-_, _*_, _/_, _%_, _^_, _≤_, _<_}
+use native.Mathlib.Nat.{mul-assoc, add-mul, add-assoc, mul-mod-left, mod-eq-of-lt, add-zero, add-comm, mul-add-div-right, div-one, lt-of-le-of-lt, lt-of-lt-of-le}
+use native.Mathlib.Omega.{arith}
+use lib.Pow.{pow-pos, pow-add, pow-mono, shr-lt, shl-shr, shl-exact, shr-shr, shr-le, mod-pow-add, high, low, split}
+use lib.Bits.{bitOr, or-shifted-r}
+
+-- a shifted number's low digits
+shl-mod : (n t k : ℕ) → n * 2 ^ k % 2 ^ (t + k) ≡ n % 2 ^ t * 2 ^ k
+shl-mod n t k =
+    mod-pow-add (n * 2 ^ k) t k
+    ∙ ap₂ (λ (x y : ℕ). x % 2 ^ t * 2 ^ k + y) (shl-shr n k) (mul-mod-left n (2 ^ k))
+    ∙ add-zero (n % 2 ^ t * 2 ^ k)
+
+-- the whole number moved down by t
+join-shr : (hi lo t k : ℕ) → (hi * 2 ^ (t + k) + lo) / 2 ^ t ≡ hi * 2 ^ k + lo / 2 ^ t
+join-shr hi lo t k =
+    ap (λ (x : ℕ). (x + lo) / 2 ^ t)
+    (ap (λ (x : ℕ). hi * x) (ap (λ (e : ℕ). 2 ^ e) (add-comm t k) ∙ pow-add 2 k t) ∙ sym (mul-assoc hi (2 ^ k) (2 ^ t)))
+    ∙ mul-add-div-right (pow-pos t) (hi * 2 ^ k) lo
+
+window-low : (hi lo t k : ℕ) → lo < 2 ^ (t + k) → bitOr (lo / 2 ^ t) (hi * 2 ^ k % 2 ^ (t + k)) ≡ (hi * 2 ^ (t + k) + lo) / 2 ^ t % 2 ^ (t + k)
+window-low hi lo t k h =
+    let b : lo / 2 ^ t < 2 ^ k = shr-lt k t (rw add-comm at h) in
+    ap (bitOr (lo / 2 ^ t)) (shl-mod hi t k)
+    ∙ or-shifted-r (hi % 2 ^ t) k (lo / 2 ^ t) b
+    ∙ sym (ap (λ (x : ℕ). x % 2 ^ (t + k)) (join-shr hi lo t k)
+    ∙ mod-pow-add (hi * 2 ^ k + lo / 2 ^ t) t k
+    ∙ ap₂ (λ (x y : ℕ). x % 2 ^ t * 2 ^ k + y) (high hi k b) (low hi k b))
+
+-- `(lo >> t) | (hi << (W - t))`
+pub window-within : (W hi lo t : ℕ) → t ≤ W → lo < 2 ^ W → bitOr (lo / 2 ^ t) (hi * 2 ^ (W - t) % 2 ^ W) ≡ (hi * 2 ^ W + lo) / 2 ^ t % 2 ^ W
+window-within W hi lo t g =
+    let e : t + (W - t) ≡ W = omega arith in
+    subst (λ (x : ℕ). lo < 2 ^ x → bitOr (lo / 2 ^ t) (hi * 2 ^ (W - t) % 2 ^ x) ≡ (hi * 2 ^ x + lo) / 2 ^ t % 2 ^ x) e
+    (window-low hi lo t (W - t))
+
+pub window-zero : (W hi lo : ℕ) → lo < 2 ^ W → lo ≡ (hi * 2 ^ W + lo) / 2 ^ zero % 2 ^ W
+window-zero W hi lo h = sym (ap (λ (x : ℕ). x % 2 ^ W) (div-one (hi * 2 ^ W + lo)) ∙ low hi W h)
+
+-- `hi >> (t - W)`
+pub window-above : (W hi lo t : ℕ) → W ≤ t → hi < 2 ^ W → lo < 2 ^ W → hi / 2 ^ (t - W) ≡ (hi * 2 ^ W + lo) / 2 ^ t % 2 ^ W
+window-above W hi lo t g hh hl =
+    let e : W + (t - W) ≡ t = omega arith in
+    sym (ap (λ (x : ℕ). (hi * 2 ^ W + lo) / 2 ^ x % 2 ^ W) (sym e)
+    ∙ ap (λ (x : ℕ). x % 2 ^ W) (sym (shr-shr (hi * 2 ^ W + lo) W (t - W)) ∙ ap (λ (x : ℕ). x / 2 ^ (t - W)) (high hi W hl))
+    ∙ mod-eq-of-lt (lt-of-le-of-lt (shr-le hi (t - W)) hh))
+
+-- the high word, moved down
+high-shr : (W hi lo j : ℕ) → lo < 2 ^ W → (hi * 2 ^ W + lo) / 2 ^ j / 2 ^ W ≡ hi / 2 ^ j
+high-shr W hi lo j h =
+    let n : ℕ = hi * 2 ^ W + lo in
+    shr-shr n j W ∙ ap (λ (x : ℕ). n / 2 ^ x) (add-comm j W) ∙ sym (shr-shr n W j) ∙ ap (λ (x : ℕ). x / 2 ^ j) (high hi W h)
+
+-- both words moved down by j make the number moved down by j
+pub words-shr : (W hi lo j : ℕ) → lo < 2 ^ W → hi / 2 ^ j * 2 ^ W + (hi * 2 ^ W + lo) / 2 ^ j % 2 ^ W ≡ (hi * 2 ^ W + lo) / 2 ^ j
+words-shr W hi lo j h =
+    let n : ℕ = hi * 2 ^ W + lo in
+    ap (λ (x : ℕ). x * 2 ^ W + n / 2 ^ j % 2 ^ W) (sym (high-shr W hi lo j h)) ∙ split (n / 2 ^ j) W
+
+-- digits from place p on, over a number m of fewer digits than p
+over-low : (q p new m : ℕ) → m < 2 ^ p → new / 2 ^ q * 2 ^ (q + p) + bitOr m (new * 2 ^ p % 2 ^ (q + p)) ≡ new * 2 ^ p + m
+over-low q p new m h =
+    ap₂ (λ (x y : ℕ). new / 2 ^ q * x + y) (pow-add 2 q p) (ap (bitOr m) (shl-mod new q p) ∙ or-shifted-r (new % 2 ^ q) p m h)
+    ∙ ap (λ (x : ℕ). x + (new % 2 ^ q * 2 ^ p + m)) (sym (mul-assoc (new / 2 ^ q) (2 ^ q) (2 ^ p)))
+    ∙ sym (add-assoc (new / 2 ^ q * 2 ^ q * 2 ^ p) (new % 2 ^ q * 2 ^ p) m)
+    ∙ ap (λ (x : ℕ). x + m) (sym (add-mul (new / 2 ^ q * 2 ^ q) (new % 2 ^ q) (2 ^ p)) ∙ ap (λ (x : ℕ). x * 2 ^ p) (split new q))
+
+-- a number moved down by w, with w new digits from place p on, where p is in the low word
+pub push-low : (W n w p new : ℕ) → p ≤ W → n < 2 ^ (w + p) → new / 2 ^ (W - p) * 2 ^ W + bitOr (n / 2 ^ w % 2 ^ W) (new * 2 ^ p % 2 ^ W) ≡ new * 2 ^ p + n / 2 ^ w
+push-low W n w p new g h =
+    let e : W - p + p ≡ W = omega arith in
+    let b : n / 2 ^ w < 2 ^ p = shr-lt p w (rw add-comm at h) in
+    let s : n / 2 ^ w % 2 ^ W ≡ n / 2 ^ w = mod-eq-of-lt (lt-of-lt-of-le b (pow-mono g)) in
+    ap (λ (x : ℕ). new / 2 ^ (W - p) * 2 ^ W + bitOr x (new * 2 ^ p % 2 ^ W)) s
+    ∙ subst (λ (x : ℕ). new / 2 ^ (W - p) * 2 ^ x + bitOr (n / 2 ^ w) (new * 2 ^ p % 2 ^ x) ≡ new * 2 ^ p + n / 2 ^ w) e
+    (over-low (W - p) p new (n / 2 ^ w) b)
+
+-- the same where p is in the high word
+pub push-high : (W hi lo w p new : ℕ) → W ≤ p → w + p ≤ W + W → lo < 2 ^ W → new < 2 ^ w → hi * 2 ^ W + lo < 2 ^ (w + p)
+    → bitOr (hi / 2 ^ w) (new * 2 ^ (p - W) % 2 ^ W) * 2 ^ W + (hi * 2 ^ W + lo) / 2 ^ w % 2 ^ W ≡ new * 2 ^ p + (hi * 2 ^ W + lo) / 2 ^ w
+push-high W hi lo w p new g t hl hn h =
+    let n : ℕ = hi * 2 ^ W + lo in
+    let q : ℕ = p - W in
+    let e : q + W ≡ p = omega arith in
+    let m : ℕ = n / 2 ^ w in
+    let b : m < 2 ^ (q + W) = rw e (shr-lt p w (subst (λ (x : ℕ). n < 2 ^ x) (add-comm w p) h)) in
+    let s : hi / 2 ^ w ≡ m / 2 ^ W = sym (high-shr W hi lo w hl) in
+    let c : m / 2 ^ W < 2 ^ q = shr-lt q W b in
+    let x : new * 2 ^ q % 2 ^ W ≡ new * 2 ^ q = shl-exact w q W hn (omega arith) in
+    ap₂ (λ (y z : ℕ). bitOr y z * 2 ^ W + m % 2 ^ W) s x
+    ∙ ap (λ (y : ℕ). y * 2 ^ W + m % 2 ^ W) (or-shifted-r new q (m / 2 ^ W) c)
+    ∙ ap (λ (y : ℕ). y + m % 2 ^ W) (add-mul (new * 2 ^ q) (m / 2 ^ W) (2 ^ W))
+    ∙ add-assoc (new * 2 ^ q * 2 ^ W) (m / 2 ^ W * 2 ^ W) (m % 2 ^ W)
+    ∙ ap₂ (λ (y z : ℕ). y + z) (mul-assoc new (2 ^ q) (2 ^ W) ∙ ap (λ (y : ℕ). new * y) (sym (pow-add 2 q W) ∙ ap (λ (y : ℕ). 2 ^ y) e)) (split m W)

@@ -1,0 +1,46 @@
+-- `turn` meets its contract: the cores' steps, from all ones and 4b of them, are P and its inverse. Assumes nothing.
+use mathlib.Core.Path.{_≡_, sym, ap, _∙_}
+use Prim.Native.Nat.{ℕ, _%_}
+use native.Mathlib.Omega.{arith}
+use borrow.Author.Needs.{needs}
+use Rattle.quark.specs.Instance.{instanceOf}
+use Rattle.permutation.specs.leaf.Words.{Turns}
+use Rattle.permutation.proofs.Turn.{ran-P, undone-P}
+use Rattle.permutation.proofs.Widths.{several, rounds-whole}
+use Rattle.permutation.proofs.core.turn.Statement.{statement}
+use Rattle.permutation.proofs.core.turn.Tie as tie
+
+rounds-requires : tie.Need-rounds-requires
+rounds-requires c κs = search needs
+
+undo-requires : tie.Need-undo-requires
+undo-requires c κs =
+    let given = c .before .before .before .pre in
+    (omega arith, (given .0, given .1 .0))
+
+returns : tie.Need-returns
+returns c = cc (undone-P (instanceOf (c .before .before .before .before .args .instance)) (c .before .before .before .before .args .bits .now))
+
+run-requires : tie.Need-run-requires
+run-requires c κs =
+    let given = c .before .before .before .before .pre in
+    (omega arith, (given .0, given .1 .0))
+
+returns-2 : tie.Need-returns-2
+returns-2 c = cc (ran-P (instanceOf (c .before .before .before .before .before .args .instance)) (c .before .before .before .before .before .args .bits .now))
+
+run-requires-2 : tie.Need-run-requires-2
+run-requires-2 c κs =
+    let start = c .before .before .before .before in
+    let i = start .args .instance in
+    let w = start .args .width in
+    let turns : Turns i w = several i w (start .pre .1 .1) (c .before .if2 .left) in
+    let whole : c .before .before .before .rounds .result % w ≡ 0 =
+    ap (λ (n : ℕ). n % w) (c .before .before .before .rounds .ensures) ∙ rounds-whole i w turns in
+    (turns, omega arith, whole, start .pre .0, start .pre .1 .0)
+
+returns-3 : tie.Need-returns-3
+returns-3 c = cc (ran-P (instanceOf (c .before .before .before .before .before .args .instance)) (c .before .before .before .before .before .args .bits .now))
+
+pub turn-spec : {M : Type 1} → statement M
+turn-spec = tie.close (tie.spec rounds-requires undo-requires returns run-requires returns-2 run-requires-2 returns-3)

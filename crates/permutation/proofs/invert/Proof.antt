@@ -1,0 +1,18 @@
+-- `invert` meets its contract: it is `overwrite`, by P's inverse. Assumes nothing.
+use borrow.Author.Needs.{needs}
+use Rattle.permutation.specs.leaf.Core.{turned}
+use Rattle.permutation.proofs.invert.Statement.{statement}
+use Rattle.permutation.proofs.invert.Tie as tie
+
+overwrite-requires : tie.Need-overwrite-requires
+overwrite-requires c κs = search needs
+
+same-length : tie.Need-same-length
+same-length c = search needs
+
+returns : tie.Need-returns
+unfolding turned
+returns c = c .before .before .overwrite .ensures
+
+pub invert-spec : {M : Type 1} → statement M
+invert-spec = tie.close (tie.spec overwrite-requires same-length returns)

@@ -1,0 +1,18 @@
+-- `serial::next_l` meets its contract. Assumes nothing.
+use Rattle.permutation.proofs.StepL.{step-wordBits}
+use native.Mathlib.Omega.{arith}
+use borrow.Author.Needs.{needs}
+use Rattle.permutation.proofs.register_l.next_l.Statement.{statement}
+use Rattle.permutation.proofs.register_l.next_l.Tie as tie
+
+mul-result : tie.Need-mul-result
+mul-result c = search needs
+
+add-result : tie.Need-add-result
+add-result c = search needs
+
+returns : tie.Need-returns
+returns c = (omega arith, step-wordBits (c .args .l) (c .pre))
+
+pub next-l-spec : {M : Type 1} → statement M
+next-l-spec = tie.close (tie.spec mul-result add-result returns)

@@ -1,0 +1,79 @@
+-- `serial::step` meets its contract. Assumes nothing.
+use mathlib.Core.Path.{_≡_}
+use Prim.Native.Nat.{ℕ}
+use Rattle.quark.specs.Step.{loaded}
+use Rattle.quark.specs.Instance.{instanceOf}
+use Rattle.quark.specs.leaf.Together.{gainX, gainY}
+use Rattle.quark.proofs.Bits.{bits-at}
+use Rattle.permutation.specs.leaf.Serial.{registers}
+use Rattle.quark.proofs.Instance.{regular}
+use Rattle.permutation.proofs.SingleBits.{exact, sum, _⊕_}
+use Rattle.permutation.proofs.SerialSteps.{f-small, g-small, h-small, Ready, sized, y-first, after-step}
+use borrow.Author.Needs.{needs}
+use Rattle.permutation.proofs.serial.step.Statement.{statement}
+use Rattle.permutation.proofs.serial.step.Tie as tie
+
+ready-of : (s : tie.Start) (half : ℕ) → half ≡ instanceOf (s .args .instance) .taps .half
+    → Ready (instanceOf (s .args .instance)) (s .args .bits .now) (s .args .l) half
+ready-of s half e = record { regular = regular (s .args .instance); full = s .pre .1 .0; single = s .pre .1 .1; is-half = e }
+
+half-of-requires : tie.Need-half-of-requires
+half-of-requires c κs = search needs
+
+add-b : tie.Need-add-b
+add-b c = search needs
+
+feedbacks-requires : tie.Need-feedbacks-requires
+feedbacks-requires c κs = search needs
+
+element-copy-out-x-gains : tie.Need-element-copy-out-x-gains
+element-copy-out-x-gains c = search needs
+
+move-down-requires : tie.Need-move-down-requires
+move-down-requires c κs = search needs
+
+sub-bits : tie.Need-sub-bits
+sub-bits c = search needs
+
+element-write-bits : tie.Need-element-write-bits
+element-write-bits c = search needs
+
+sub-bits-2 : tie.Need-sub-bits-2
+sub-bits-2 c = search needs
+
+element-write-bits-2 : tie.Need-element-write-bits-2
+element-write-bits-2 c = search needs
+
+next-l-requires : tie.Need-next-l-requires
+next-l-requires c κs = search needs
+
+returns : tie.Need-returns
+unfolding registers loaded gainX gainY
+returns c =
+    let s = c .before .before .before .before .before .before .before .before .before .before in
+    let T = instanceOf (s .args .instance) .taps in
+    let R = ready-of s (c .before .before .before .before .before .before .before .before .before .half-of .result) (c .before .before .before .before .before .before .before .before .before .half-of .ensures .0) in
+    let fed = c .before .before .before .before .before .before .before .feedbacks .ensures in
+    let moved = c .before .move-down in
+    let y0 = exact (y-first R) (bits-at (sized R .wideY .1) 0) in
+    let f = exact (fed .isF) (f-small T _) in
+    let g = exact (fed .isG) (g-small T _) in
+    let h = exact (fed .isH) (h-small T _ _ _) in
+    after-step R (c .next-l .result) (c .next-l .ensures .0) _ _ (moved .last .0) (moved .ensures) ((sum y0 ⊕ f ⊕ h) .same) ((sum g ⊕ h) .same)
+    (c .next-l .ensures .1)
+
+pub step-spec : {M : Type 1} → statement M
+step-spec =
+    tie.close
+    (tie.spec
+    half-of-requires
+    add-b
+    feedbacks-requires
+    element-copy-out-x-gains
+    move-down-requires
+    sub-bits
+    element-write-bits
+    sub-bits-2
+    element-write-bits-2
+    next-l-requires
+    returns)

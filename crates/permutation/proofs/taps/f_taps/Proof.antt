@@ -1,0 +1,21 @@
+-- `serial::f_taps` meets its contract: for each of the three instances by computation. Assumes nothing.
+use mathlib.Core.Path.{refl}
+use Rattle.quark.specs.Instance.{U, D, S}
+use Rattle.permutation.proofs.Instances.{is-U, is-D, is-S}
+use Rattle.permutation.proofs.taps.f_taps.Statement.{statement}
+use Rattle.permutation.proofs.taps.f_taps.Tie as tie
+
+returns : tie.Need-returns
+unfolding U
+returns c = rw (is-U _ (c .if1 .taken)) refl
+
+returns-2 : tie.Need-returns-2
+unfolding D
+returns-2 c = rw (is-D _ (c .if2 .taken)) refl
+
+returns-3 : tie.Need-returns-3
+unfolding S
+returns-3 c = rw (is-S _ (c .before .if1 .left) (c .if2 .left)) refl
+
+pub f-taps-spec : {M : Type 1} → statement M
+f-taps-spec = tie.close (tie.spec returns returns-2 returns-3)

@@ -1,0 +1,42 @@
+-- The registers that stand in the cells of the serial form, and what its functions leave. Only the contracts of private functions cite
+-- these forms. Assumes nothing.
+use mathlib.Core.Path.{_≡_}
+use mathlib.Core.List.{List, [], _∷_}
+use Prim.Native.Nat.{ℕ, _<_}
+use lib.ListN.{length, take, drop}
+use Rattle.quark.specs.Bytes.{bit}
+use Rattle.quark.specs.Feedback.{Taps, f, g, h}
+use Rattle.quark.specs.Step.{Registers, loaded}
+use Rattle.quark.specs.Instance.{Instance}
+use Rattle.quark.specs.leaf.Word.{wordBits}
+use Rattle.permutation.specs.leaf.Core.{Cells}
+
+-- X and Y in the first b cells, and L's value l
+unfoldable pub registers : Instance → List ℕ → ℕ → Registers
+registers I cells l = loaded (I .taps) (take (I .b) cells) (wordBits 10 l)
+
+-- the taps of thirteen bits that are gathered already
+unfoldable pub places : List ℕ
+places = 0 ∷ 1 ∷ 2 ∷ 3 ∷ 4 ∷ 5 ∷ 6 ∷ 7 ∷ 8 ∷ 9 ∷ 10 ∷ 11 ∷ 12 ∷ []
+
+-- the five taps of h's products
+pub record Products (T : Taps) (y-low x-low x-mid x-high y-high : ℕ) : Type 0 where
+  pub yLow : y-low ≡ T .yLow
+  pub xLow : x-low ≡ T .xLow
+  pub xMid : x-mid ≡ T .xMid
+  pub xHigh : x-high ≡ T .xHigh
+  pub yHigh : y-high ≡ T .yHigh
+
+-- the bits of f, g and h on registers
+pub record Fed (T : Taps) (s : Registers) (f-bit g-bit h-bit : ℕ) : Type 0 where
+  pub isF : f-bit ≡ f T (bit (s .X))
+  pub isG : g-bit ≡ g T (bit (s .Y))
+  pub isH : h-bit ≡ h T (bit (s .X)) (bit (s .Y)) (bit (s .L))
+
+-- after a step, or a step undone: the cells and L's value hold the registers s, and the cells from b on are as they were
+pub record Turned (I : Instance) (s : Registers) (before after : List ℕ) (l : ℕ) : Type 0 where
+  pub holds : registers I after l ≡ s
+  pub rest : drop (I .b) after ≡ drop (I .b) before
+  pub small : l < 1024
+  pub full : length after ≡ 256
+  pub cells : Cells after

@@ -1,0 +1,22 @@
+// L in strides. Its new bit is L0 + L3 of ten bits, so at most seven steps can be taken from the old bits: eight are two strides of four.
+// L is a number below 1024 with bit i at weight 2 ^ i.
+ghost use mathlib.Core.Path.{_≡_};
+ghost use Prim.Native.Nat.{_<_};
+ghost use Rattle.quark.specs.Step.{stepsL};
+ghost use Rattle.quark.specs.leaf.Word.{wordBits};
+
+// Four steps of L from its old bits.
+fn four(l: u64) -> u64
+    requires { ⌜ l < 1024 ⌝ }
+    ensures { λ r. ⌜ (r < 1024) × (wordBits 10 r ≡ stepsL 4 (wordBits 10 l)) ⌝ }
+{
+    ((l ^ (l / 8)) % 16) * 64 + l / 16
+}
+
+// Eight steps of L.
+pub fn eight(l: u64) -> u64
+    requires { ⌜ l < 1024 ⌝ }
+    ensures { λ r. ⌜ (r < 1024) × (wordBits 10 r ≡ stepsL 8 (wordBits 10 l)) ⌝ }
+{
+    four(four(l))
+}

@@ -1,0 +1,42 @@
+-- `write_lfsr` is safe and ends. The measure is the place, which starts at 10. Assumes nothing.
+use Prim.Native.Nat.{_≤_}
+use borrow.Author.Needs.{needs}
+use Rattle.vectors.proofs.write_lfsr.Statement.{statement}
+use Rattle.vectors.proofs.write_lfsr.Tie as tie
+
+abbrev Inv-loop : tie.InvT-loop
+Inv-loop heading steps l place₀ place = place ≤ 10
+
+abbrev μ-loop : tie.MeasureT-loop
+μ-loop heading steps l place₀ place = place
+
+write-all-requires : tie.Need-write-all-requires Inv-loop μ-loop
+write-all-requires c κs = search needs
+
+lfsr-requires : tie.Need-lfsr-requires Inv-loop μ-loop
+lfsr-requires c κs = search needs
+
+loop-holds : tie.Need-loop-holds Inv-loop μ-loop
+loop-holds c = search needs
+
+sub-place : tie.Need-sub-place Inv-loop μ-loop
+sub-place c = search needs
+
+write-bit-requires : tie.Need-write-bit-requires Inv-loop μ-loop
+write-bit-requires c κs = search needs
+
+loop-less : tie.Need-loop-less Inv-loop μ-loop
+loop-less c = search needs
+
+loop-again : tie.Need-loop-again Inv-loop μ-loop
+loop-again c = search needs
+
+write-newline-requires : tie.Need-write-newline-requires Inv-loop μ-loop
+write-newline-requires c κs = search needs
+
+returns : tie.Need-returns Inv-loop μ-loop
+returns c = search needs
+
+pub write-lfsr-spec : {M : Type 1} → statement M
+write-lfsr-spec =
+    tie.close (tie.spec Inv-loop μ-loop write-all-requires lfsr-requires loop-holds sub-place write-bit-requires loop-less loop-again write-newline-requires returns)
