@@ -7,7 +7,7 @@ mod words;
 use reference::random::Random;
 use std::time::{Duration, Instant};
 
-/// One row: µs a call of the proved function and of the two peers. There is no word form at width 1.
+/// One row: µs a call of the proved function and of the two peers. There is no word form at width 1, and none of the inverse yet.
 struct Row {
     instance: u32,
     width: u32,
@@ -21,8 +21,11 @@ struct Row {
 const ROUNDS: usize = 240;
 const ROUND: Duration = Duration::from_micros(500);
 
+/// A function to be measured, on a state.
+type Call<'a> = &'a dyn Fn(&mut [u8]);
+
 /// µs a call, over about one round's time. Every call works on what the call before it left.
-fn time(state: &mut [u8], call: &dyn Fn(&mut [u8])) -> f64 {
+fn time(state: &mut [u8], call: Call) -> f64 {
     let start = Instant::now();
     let mut calls = 0;
     while start.elapsed() < ROUND {
@@ -36,15 +39,15 @@ fn time(state: &mut [u8], call: &dyn Fn(&mut [u8])) -> f64 {
 
 /// The best of several rounds for each of the three, turn by turn, so that a slow spell of the machine meets all of them.
 fn row(instance: u32, width: u32, back: bool) -> Row {
-    let proved: &dyn Fn(&mut [u8]) = match back {
+    let proved: Call = match back {
         false => &|state| wilbroged::permute(instance, width, state).unwrap(),
         true => &|state| wilbroged::invert(instance, width, state).unwrap(),
     };
-    let word: &dyn Fn(&mut [u8]) = match back {
-        false => &|state| words::permute(instance, width, state),
-        true => &|state| words::invert(instance, width, state),
+    let word: Option<Call> = match (width, back) {
+        (1, _) | (_, true) => None,
+        _ => Some(&|state| words::permute(instance, width, state)),
     };
-    let cell: &dyn Fn(&mut [u8]) = match back {
+    let cell: Call = match back {
         false => &|state| reference::permute(instance, state),
         true => &|state| reference::invert(instance, state),
     };
@@ -52,12 +55,12 @@ fn row(instance: u32, width: u32, back: bool) -> Row {
     let mut best = [f64::INFINITY; 3];
     for _ in 0..ROUNDS {
         best[0] = best[0].min(time(&mut state, proved));
-        if width > 1 {
+        if let Some(word) = word {
             best[1] = best[1].min(time(&mut state, word));
         }
         best[2] = best[2].min(time(&mut state, cell));
     }
-    Row { instance, width, back, proved: best[0], word: (width > 1).then_some(best[1]), cell: best[2] }
+    Row { instance, width, back, proved: best[0], word: word.map(|_| best[1]), cell: best[2] }
 }
 
 fn name(instance: u32) -> &'static str {
