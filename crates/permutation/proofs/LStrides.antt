@@ -1,4 +1,4 @@
--- L in strides: its first bit in each step, and four steps from its old bits. L is the ten bits of a number. Assumes nothing.
+-- L in strides: its first bit in each step, four steps from its old bits, and two steps undone. L is the ten bits of a number. Assumes nothing.
 use mathlib.Core.List.{List, [], _∷_, _++_, append-nil}
 use mathlib.Core.Logic.{⊎-elim, _⊎_, inl, inr}
 use mathlib.Core.Path.{_≡_, refl, sym, ap, ap₂, _∙_}
@@ -14,21 +14,22 @@ use Rattle.quark.specs.Feedback.{p}
 use Rattle.quark.specs.Step.{stepL, stepsL}
 use Rattle.quark.specs.leaf.Word.{wordBit, wordBits}
 use Rattle.quark.proofs.Together.{shift-moved, stepsL-add}
-use Rattle.quark.proofs.Word.{wordBit-xor, wordBit-shr, wordBit-mod, length-wordBits, getD-wordBits, snoc-wordBits, move-wordBits}
+use Rattle.quark.proofs.Word.{wordBit-lt, wordBit-xor, wordBit-shr, wordBit-mod, length-wordBits, getD-wordBits, move-wordBits}
+use Rattle.permutation.proofs.MovedUp.{tabulate-word, low-bit, high-bit, up-moved}
 
 -- what L gains in step j, of its old bits
-gain : List ℕ → ℕ → ℕ
+unfoldable pub gain : List ℕ → ℕ → ℕ
 gain l j = (bit l j + bit l (j + 3)) % 2
 
 -- the new bits of j steps stand behind what is left of the old ones, as long as L0 and L3 are old
-moved : (l : List ℕ) → length l ≡ 10 → (j : ℕ) → j ≤ 7 → stepsL j l ≡ drop j l ++ tabulate j (gain l)
+pub new-behind : (l : List ℕ) → length l ≡ 10 → (j : ℕ) → j ≤ 7 → stepsL j l ≡ drop j l ++ tabulate j (gain l)
 unfolding stepsL stepL tabulate gain p
-moved l n zero h = sym (append-nil l)
-moved l n (suc j) h =
+new-behind l n zero h = sym (append-nil l)
+new-behind l n (suc j) h =
     let new : List ℕ = tabulate j (gain l) in
     let at : (i : ℕ) → j + i < 10 → bit (drop j l ++ new) i ≡ bit l (j + i) =
     λ i q. (let inside : i < length (drop j l) = simp length-drop (omega arith) in List·getD-append (drop j l) new 0 i inside ∙ getD-drop j l i 0) in
-    ap stepL (moved l n j (omega arith))
+    ap stepL (new-behind l n j (omega arith))
     ∙ shift-moved j l new (p (bit (drop j l ++ new))) (omega arith)
     ∙ ap (λ (v : ℕ). drop (suc j) l ++ (new ++ (v ∷ [])))
     (ap₂ (λ (x y : ℕ). (x + y) % 2) (at 0 (omega arith) ∙ ap (bit l) (add-zero j)) (at 3 (omega arith)))
@@ -39,18 +40,11 @@ first-bit n k h =
     let l : List ℕ = wordBits 10 n in
     let e : length l ≡ 10 = length-wordBits 10 n in
     let inside : 0 < length (drop k l) = simp length-drop (omega arith) in
-    ap (λ (r : List ℕ). bit r 0) (moved l e k h)
+    ap (λ (r : List ℕ). bit r 0) (new-behind l e k h)
     ∙ List·getD-append (drop k l) (tabulate k (gain l)) 0 0 inside
     ∙ getD-drop k l 0 0
     ∙ ap (bit l) (add-zero k)
     ∙ getD-wordBits 10 n k (omega arith)
-
--- new bits that are those of a number
-pub tabulate-word : (m w : ℕ) (b : ℕ → ℕ) → ((j : ℕ) → j < w → b j ≡ wordBit m j) → tabulate w b ≡ wordBits w m
-unfolding tabulate wordBits
-tabulate-word m zero b h = refl
-tabulate-word m (suc w) b h =
-    ap₂ (λ (l : List ℕ) (v : ℕ). l ++ (v ∷ [])) (tabulate-word m w b (λ j g. h j (omega arith))) (h w (omega arith)) ∙ sym (snoc-wordBits w m)
 
 -- four steps
 pub four-steps : (n : ℕ) → n < 2 ^ 10 → wordBits 10 (bitXor n (n / 2 ^ 3) % 2 ^ 4 * 2 ^ 6 + n / 2 ^ 4) ≡ stepsL 4 (wordBits 10 n)
@@ -62,7 +56,7 @@ four-steps n h =
     let new : (j : ℕ) → j < 4 → gain l j ≡ wordBit m j =
     λ j g. ap₂ (λ (x y : ℕ). (x + y) % 2) (at j (omega arith)) (at (j + 3) (omega arith) ∙ ap (wordBit n) (add-comm j 3) ∙ sym (wordBit-shr n 3 j))
     ∙ sym (wordBit-mod (bitXor n (n / 2 ^ 3)) 4 j g ∙ wordBit-xor n (n / 2 ^ 3) j) in
-    sym (moved l (length-wordBits 10 n) 4 (omega arith)
+    sym (new-behind l (length-wordBits 10 n) 4 (omega arith)
     ∙ ap (λ (r : List ℕ). drop 4 l ++ r) (tabulate-word m 4 (gain l) new)
     ∙ move-wordBits 4 6 n m h)
 
@@ -73,7 +67,7 @@ Firsts w l word = (k : ℕ) → k < w → bit (stepsL k (wordBits 10 l)) 0 ≡ w
 pub firsts-eight : (l : ℕ) → Firsts 8 l l
 firsts-eight l k h = first-bit l k (omega arith)
 
-below : (k n : ℕ) → (k < n) ⊎ (n ≤ k)
+pub below : (k n : ℕ) → (k < n) ⊎ (n ≤ k)
 below k zero = inr (omega arith)
 below zero (suc n) = inl (omega arith)
 below (suc k) (suc n) = ⊎-elim (λ h. inl (omega arith)) (λ h. inr (omega arith)) (below k n)
@@ -99,3 +93,31 @@ firsts-sixteen l next e k h = ⊎-elim under over (below k 8)
         ∙ ap (λ (x : ℕ). wordBit x j) (sym (high next 8 (mod-lt l (pow-pos 8))))
         ∙ wordBit-shr (next * 2 ^ 8 + l % 2 ^ 8) 8 j
         ∙ ap (wordBit (next * 2 ^ 8 + l % 2 ^ 8)) ek
+
+-- ---- back
+
+-- two steps lead from L so moved up to L
+pub two-back-steps : (l : ℕ) → stepsL 2 (wordBits 10 (l % 2 ^ 8 * 2 ^ 2 + bitXor (l / 2 ^ 8) (l / 2 ^ 1) % 2 ^ 2)) ≡ wordBits 10 l
+unfolding gain
+two-back-steps l =
+    let v : ℕ = bitXor (l / 2 ^ 8) (l / 2 ^ 1) % 2 ^ 2 in
+    let n : ℕ = l % 2 ^ 8 * 2 ^ 2 + v in
+    let small : v < 2 ^ 2 = mod-lt (bitXor (l / 2 ^ 8) (l / 2 ^ 1)) (pow-pos 2) in
+    let r : List ℕ = wordBits 10 n in
+    let gained : (j : ℕ) → j < 2 → gain r j ≡ wordBit l (8 + j) =
+    λ j less.
+    (let near : bit r j ≡ (wordBit l (8 + j) + wordBit l (1 + j)) % 2 =
+    getD-wordBits 10 n j (omega arith)
+    ∙ low-bit (l % 2 ^ 8) 2 v j small less
+    ∙ wordBit-mod (bitXor (l / 2 ^ 8) (l / 2 ^ 1)) 2 j less
+    ∙ wordBit-xor (l / 2 ^ 8) (l / 2 ^ 1) j
+    ∙ ap₂ (λ (a b : ℕ). (a + b) % 2) (wordBit-shr l 8 j) (wordBit-shr l 1 j) in
+    let place : j + 3 - 2 ≡ 1 + j = omega arith in
+    let far : bit r (j + 3) ≡ wordBit l (1 + j) =
+    getD-wordBits 10 n (j + 3) (omega arith)
+    ∙ high-bit (l % 2 ^ 8) 2 v (j + 3) small (omega arith)
+    ∙ ap (wordBit (l % 2 ^ 8)) place
+    ∙ wordBit-mod l 8 (1 + j) (omega arith) in
+    let bound = wordBit-lt l (8 + j) in
+    omega arith) in
+    new-behind r (length-wordBits 10 n) 2 (omega arith) ∙ up-moved 10 l 8 2 v (gain r) refl small gained

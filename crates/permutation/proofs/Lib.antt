@@ -15,3 +15,7 @@ pub mod Feeds
 pub mod TwoWords
 pub mod CellWords
 pub mod Widths
+pub mod MovedUp
+pub mod SpreadTaps
+pub mod StridesBack
+pub mod TurnsBack

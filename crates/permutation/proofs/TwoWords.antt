@@ -3,7 +3,7 @@ use mathlib.Core.Path.{_≡_, sym, ap, ap₂, _∙_, subst}
 use Prim.Native.Nat.{ℕ, zero, _+_, _-_, _*_, _/_, _%_, _^_, _≤_, _<_}
 use native.Mathlib.Nat.{mul-assoc, add-mul, add-assoc, mul-mod-left, mod-eq-of-lt, add-zero, add-comm, mul-add-div-right, div-one, lt-of-le-of-lt, lt-of-lt-of-le}
 use native.Mathlib.Omega.{arith}
-use lib.Pow.{pow-pos, pow-add, pow-mono, shr-lt, shl-shr, shl-exact, shr-shr, shr-le, mod-pow-add, high, low, split}
+use lib.Pow.{pow-pos, pow-add, pow-mono, shr-lt, shl-shr, shl-exact, shr-shr, shr-le, mod-pow-add, mod-mod-pow, high, low, split}
 use lib.Bits.{bitOr, or-shifted-r}
 
 -- a shifted number's low digits
@@ -94,3 +94,32 @@ push-high W hi lo w p new g t hl hn h =
     ∙ ap (λ (y : ℕ). y + m % 2 ^ W) (add-mul (new * 2 ^ q) (m / 2 ^ W) (2 ^ W))
     ∙ add-assoc (new * 2 ^ q * 2 ^ W) (m / 2 ^ W * 2 ^ W) (m % 2 ^ W)
     ∙ ap₂ (λ (y z : ℕ). y + z) (mul-assoc new (2 ^ q) (2 ^ W) ∙ ap (λ (y : ℕ). new * y) (sym (pow-add 2 q W) ∙ ap (λ (y : ℕ). 2 ^ y) e)) (split m W)
+
+-- ---- moved up
+
+-- a number moved up by w, with w new digits in front; its q digits of the high word are those below place p. The high word is moved up and
+-- down again by e, so that what is above falls out.
+pub pull-words : (W q r w e p hi lo new : ℕ) → r + w ≡ W → q + e ≡ W → q + r ≡ p → lo < 2 ^ W → new < 2 ^ w
+    → (hi * 2 ^ W + lo) / 2 ^ r % 2 ^ W * 2 ^ e % 2 ^ W / 2 ^ e * 2 ^ W + bitOr new (lo * 2 ^ w % 2 ^ W) ≡ (hi * 2 ^ W + lo) % 2 ^ p * 2 ^ w + new
+pull-words W q r w e p hi lo new er ee ep hl hn =
+    let n : ℕ = hi * 2 ^ W + lo in
+    let v : ℕ = n / 2 ^ r % 2 ^ W in
+    let above : v * 2 ^ e % 2 ^ W / 2 ^ e ≡ n / 2 ^ r % 2 ^ q =
+    ap (λ (x : ℕ). v * 2 ^ e % 2 ^ x / 2 ^ e) (sym ee)
+    ∙ ap (λ (x : ℕ). x / 2 ^ e) (shl-mod v q e)
+    ∙ shl-shr (v % 2 ^ q) e
+    ∙ ap (λ (x : ℕ). n / 2 ^ r % 2 ^ x % 2 ^ q) (sym (add-comm e q ∙ ee))
+    ∙ mod-mod-pow (n / 2 ^ r) e q in
+    let kept : lo % 2 ^ r ≡ n % 2 ^ r =
+    ap (λ (x : ℕ). x % 2 ^ r) (sym (low hi W hl)) ∙ ap (λ (x : ℕ). n % 2 ^ x % 2 ^ r) (sym (add-comm w r ∙ er)) ∙ mod-mod-pow n w r in
+    let below : bitOr new (lo * 2 ^ w % 2 ^ W) ≡ n % 2 ^ r * 2 ^ w + new =
+    ap (λ (x : ℕ). bitOr new (lo * 2 ^ w % 2 ^ x)) (sym er)
+    ∙ ap (bitOr new) (shl-mod lo r w ∙ ap (λ (x : ℕ). x * 2 ^ w) kept)
+    ∙ or-shifted-r (n % 2 ^ r) w new hn in
+    let word : 2 ^ W ≡ 2 ^ r * 2 ^ w = ap (λ (x : ℕ). 2 ^ x) (sym er) ∙ pow-add 2 r w in
+    ap₂ (λ (x y : ℕ). x * 2 ^ W + y) above below
+    ∙ ap (λ (x : ℕ). n / 2 ^ r % 2 ^ q * x + (n % 2 ^ r * 2 ^ w + new)) word
+    ∙ ap (λ (x : ℕ). x + (n % 2 ^ r * 2 ^ w + new)) (sym (mul-assoc (n / 2 ^ r % 2 ^ q) (2 ^ r) (2 ^ w)))
+    ∙ sym (add-assoc (n / 2 ^ r % 2 ^ q * 2 ^ r * 2 ^ w) (n % 2 ^ r * 2 ^ w) new)
+    ∙ ap (λ (x : ℕ). x + new) (sym (add-mul (n / 2 ^ r % 2 ^ q * 2 ^ r) (n % 2 ^ r) (2 ^ w)))
+    ∙ ap (λ (x : ℕ). x * 2 ^ w + new) (sym (mod-pow-add n q r) ∙ ap (λ (x : ℕ). n % 2 ^ x) ep)

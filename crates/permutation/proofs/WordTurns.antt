@@ -27,7 +27,8 @@ use Rattle.permutation.specs.leaf.Words.{value, written, inStep, product
 use Rattle.permutation.proofs.Sums.{xor-sum, maskSum-lt, bit-pack}
 use Rattle.permutation.proofs.Feeds.{feedback-split}
 use Rattle.permutation.proofs.CellWords.{loaded-held, stored-held}
-use Rattle.permutation.proofs.LStrides.{Firsts, tabulate-word}
+use Rattle.permutation.proofs.LStrides.{Firsts}
+use Rattle.permutation.proofs.MovedUp.{tabulate-word}
 
 pub width-fits : (w : ℕ) → Width w → (0 < w) × (w ≤ 16)
 width-fits w = ⊎-elim (λ e. omega arith) (λ e. omega arith)

@@ -6,7 +6,7 @@ ghost use Prim.Native.Nat.{ℕ, _+_, _*_, _/_, _%_, _^_, _<_};
 ghost use Rattle.quark.specs.Feedback.{sumAt, h};
 ghost use Rattle.quark.specs.Instance.{U, D, S};
 ghost use Rattle.quark.specs.leaf.Word.{wordBit, placesFrom};
-ghost use Rattle.permutation.specs.leaf.Words.{value, inStep, products, mixes, Rest, maskSum, pack};
+ghost use Rattle.permutation.specs.leaf.Words.{value, inStep, products, mixes, ProductBits, Rest, maskSum, pack};
 use crate::registers::Register;
 use crate::registers::down;
 use crate::registers::window;
@@ -124,7 +124,7 @@ fn three(r: Register, s: u32, t: u32, u: u32) -> u64
 }
 
 // h of U; bit k of l is L's first bit in step k.
-fn h_u(x: Register, y: Register, l: u64) -> u64
+pub fn h_u(x: Register, y: Register, l: u64) -> u64
     ensures { λ w. ⌜ ((k : ℕ) → k < 64 → wordBit w k ≡ h (U .taps) (inStep k x) (inStep k y) (λ i. wordBit l k)) ⌝ }
 {
     mixed_at(x, y, l, 3, 25, 46, 55, 59)
@@ -136,7 +136,7 @@ fn h_u(x: Register, y: Register, l: u64) -> u64
 }
 
 // h of D.
-fn h_d(x: Register, y: Register, l: u64) -> u64
+pub fn h_d(x: Register, y: Register, l: u64) -> u64
     ensures { λ w. ⌜ ((k : ℕ) → k < 64 → wordBit w k ≡ h (D .taps) (inStep k x) (inStep k y) (λ i. wordBit l k)) ⌝ }
 {
     mixed_at(x, y, l, 4, 35, 57, 68, 79)
@@ -147,7 +147,7 @@ fn h_d(x: Register, y: Register, l: u64) -> u64
 }
 
 // h of S.
-fn h_s(x: Register, y: Register, l: u64) -> u64
+pub fn h_s(x: Register, y: Register, l: u64) -> u64
     ensures { λ w. ⌜ ((k : ℕ) → k < 64 → wordBit w k ≡ h (S .taps) (inStep k x) (inStep k y) (λ i. wordBit l k)) ⌝ }
 {
     mixed_at(x, y, l, 8, 47, 72, 100, 111)
@@ -158,16 +158,35 @@ fn h_s(x: Register, y: Register, l: u64) -> u64
         ^ window(y, 111)
 }
 
+// The products of f and g of U.
+pub fn products_u(x: Register, y: Register) -> Gains
+    ensures { λ w. ⌜ ((k : ℕ) → k < 64 → ProductBits (U .taps) x y w k) ⌝ }
+{
+    Gains {
+        x: products_at(x, 9, 15, 21, 28, 33, 37, 45, 52, 55, 59),
+        y: products_at(y, 7, 15, 20, 30, 35, 37, 42, 51, 54, 58),
+    }
+}
+
 // What X and Y of U gain, but for the linear taps of f and g.
 pub fn rest_u(x: Register, y: Register, l: u64) -> Gains
     ensures { λ w. ⌜ ((k : ℕ) → k < 64 → Rest (U .taps) x y l w k) ⌝ }
 {
-    let f = products_at(x, 9, 15, 21, 28, 33, 37, 45, 52, 55, 59);
-    let g = products_at(y, 7, 15, 20, 30, 35, 37, 42, 51, 54, 58);
+    let products = products_u(x, y);
     let h = h_u(x, y, l);
     Gains {
-        x: y.lo ^ f ^ h,
-        y: g ^ h,
+        x: y.lo ^ products.x ^ h,
+        y: products.y ^ h,
+    }
+}
+
+// The products of f and g of D.
+pub fn products_d(x: Register, y: Register) -> Gains
+    ensures { λ w. ⌜ ((k : ℕ) → k < 64 → ProductBits (D .taps) x y w k) ⌝ }
+{
+    Gains {
+        x: products_at(x, 11, 19, 27, 36, 42, 47, 58, 67, 71, 79),
+        y: products_at(y, 9, 19, 25, 38, 44, 47, 54, 67, 69, 78),
     }
 }
 
@@ -175,12 +194,21 @@ pub fn rest_u(x: Register, y: Register, l: u64) -> Gains
 pub fn rest_d(x: Register, y: Register, l: u64) -> Gains
     ensures { λ w. ⌜ ((k : ℕ) → k < 64 → Rest (D .taps) x y l w k) ⌝ }
 {
-    let f = products_at(x, 11, 19, 27, 36, 42, 47, 58, 67, 71, 79);
-    let g = products_at(y, 9, 19, 25, 38, 44, 47, 54, 67, 69, 78);
+    let products = products_d(x, y);
     let h = h_d(x, y, l);
     Gains {
-        x: y.lo ^ f ^ h,
-        y: g ^ h,
+        x: y.lo ^ products.x ^ h,
+        y: products.y ^ h,
+    }
+}
+
+// The products of f and g of S.
+pub fn products_s(x: Register, y: Register) -> Gains
+    ensures { λ w. ⌜ ((k : ℕ) → k < 64 → ProductBits (S .taps) x y w k) ⌝ }
+{
+    Gains {
+        x: products_at(x, 16, 28, 39, 52, 61, 69, 84, 97, 103, 111),
+        y: products_at(y, 13, 28, 37, 56, 65, 69, 79, 96, 101, 109),
     }
 }
 
@@ -188,12 +216,11 @@ pub fn rest_d(x: Register, y: Register, l: u64) -> Gains
 pub fn rest_s(x: Register, y: Register, l: u64) -> Gains
     ensures { λ w. ⌜ ((k : ℕ) → k < 64 → Rest (S .taps) x y l w k) ⌝ }
 {
-    let f = products_at(x, 16, 28, 39, 52, 61, 69, 84, 97, 103, 111);
-    let g = products_at(y, 13, 28, 37, 56, 65, 69, 79, 96, 101, 109);
+    let products = products_s(x, y);
     let h = h_s(x, y, l);
     Gains {
-        x: y.lo ^ f ^ h,
-        y: g ^ h,
+        x: y.lo ^ products.x ^ h,
+        y: products.y ^ h,
     }
 }
 

@@ -119,3 +119,15 @@ pub fn push(r: Register, new: u64, place: u32, width: u32) -> Register
         }
     }
 }
+
+// A register of place + width bits moved up by width, with the width bits of `new` in front; its last width bits drop out.
+pub fn pull(r: Register, new: u64, place: u32, width: u32) -> Register
+    requires { ⌜ (new < 2 ^ width) × (0 < width) × (width < 64) × (64 < width + place) × (width + place ≤ 128) ⌝ }
+    ensures { λ d. ⌜ value d ≡ value r % 2 ^ place * 2 ^ width + new ⌝ }
+{
+    let above = 128 - width - place;
+    Register {
+        hi: (window(r, 64 - width) << above) >> above,
+        lo: new | (r.lo << width),
+    }
+}

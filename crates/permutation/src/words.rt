@@ -11,6 +11,10 @@ use crate::feedback::linear;
 use crate::feedback::rest_d;
 use crate::feedback::rest_s;
 use crate::feedback::rest_u;
+use crate::masks::Masks;
+use crate::masks::masks_d;
+use crate::masks::masks_s;
+use crate::masks::masks_u;
 use crate::registers::Register;
 use crate::registers::load;
 use crate::registers::push;
@@ -19,10 +23,10 @@ use crate::strides::eight;
 use crate::taps::half_of;
 
 // X, Y and L.
-struct State {
-    x: Register,
-    y: Register,
-    l: u64,
+pub struct State {
+    pub x: Register,
+    pub y: Register,
+    pub l: u64,
 }
 
 // The lowest 8 or 16 bits of a word.
@@ -61,14 +65,9 @@ fn turn_u(x: Register, y: Register, l: u64) -> State
     requires { ⌜ Fitting (U .taps) x y l ⌝ }
     ensures { λ s. ⌜ Stepped (U .taps) 8 x y l s ⌝ }
 {
-    let f = Register {
-        hi: 0,
-        lo: 0x94_2022_1020_4201,
-    };
-    let g = Register {
-        hi: 0,
-        lo: 0x4a_0428_4011_0081,
-    };
+    let masks = masks_u();
+    let f = masks.f;
+    let g = masks.g;
     turned(x, y, rest_u(x, y, l), f, g, 60, 8, eight(l))
 }
 
@@ -77,14 +76,9 @@ fn turn_d(x: Register, y: Register, l: u64) -> State
     requires { ⌜ Fitting (D .taps) x y l ⌝ }
     ensures { λ s. ⌜ Stepped (D .taps) 8 x y l s ⌝ }
 {
-    let f = Register {
-        hi: 0x89,
-        lo: 0x400_8410_0804_0801,
-    };
-    let g = Register {
-        hi: 0x28,
-        lo: 0x8040_9040_0210_0201,
-    };
+    let masks = masks_d();
+    let f = masks.f;
+    let g = masks.g;
     turned(x, y, rest_d(x, y, l), f, g, 80, 8, eight(l))
 }
 
@@ -93,14 +87,9 @@ fn turn_s(x: Register, y: Register, l: u64, width: u32) -> State
     requires { ⌜ Width width × Fitting (S .taps) x y l ⌝ }
     ensures { λ s. ⌜ Stepped (S .taps) width x y l s ⌝ }
 {
-    let f = Register {
-        hi: 0x82_4010_0020,
-        lo: 0x2010_0080_0401_0001,
-    };
-    let g = Register {
-        hi: 0x21_1000_8022,
-        lo: 0x100_0020_4000_2001,
-    };
+    let masks = masks_s();
+    let f = masks.f;
+    let g = masks.g;
     let next = eight(l);
     let rest = rest_s(x, y, next * 256 + l % 256);
     if width == 8 {

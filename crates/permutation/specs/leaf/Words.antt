@@ -6,11 +6,12 @@ use mathlib.Core.Path.{_≡_}
 use Prim.Native.Nat.{ℕ, zero, suc, _+_, _*_, _/_, _%_, _^_, _<_}
 use lib.Bits.{bitXor}
 use lib.ListN.{getD, take, drop}
-use Rattle.quark.specs.Feedback.{Taps, exchange, sumAt, h}
+use Rattle.quark.specs.Feedback.{Taps, exchange, f, g, sumAt, h}
 use Rattle.quark.specs.Step.{Registers, steps}
 use Rattle.quark.specs.leaf.Word.{wordBit, wordBits, placesFrom}
 use Rattle.permutation.specs.declared.registers.Register.{Register}
 use Rattle.permutation.specs.declared.feedback.Gains.{Gains}
+use Rattle.permutation.specs.declared.masks.Masks.{Masks}
 use Rattle.permutation.specs.declared.words.State.{State}
 
 -- the number that a register is
@@ -50,6 +51,21 @@ linearTaps taps =
 unfoldable pub mixes : (l y3 x25 x46 x55 y59 : ℕ) → ℕ
 mixes l y3 x25 x46 x55 y59 =
     l + y3 * x55 + x46 * x55 + x55 * y59 + y3 * x25 * x46 + y3 * x46 * x55 + y3 * x46 * y59 + l * x25 * x46 * y59 + l * x25
+
+-- masks whose places are the linear taps of f and of g
+pub record Masking (T : Taps) (m : Masks) : Type 0 where
+  pub fPlaces : placesFrom 128 0 (value (m .f)) ≡ linearTaps (T .fTaps)
+  pub gPlaces : placesFrom 128 0 (value (m .g)) ≡ linearTaps (exchange (T .gTaps))
+
+-- the products of f in X and of g in Y in step k
+pub record ProductBits (T : Taps) (x y : Register) (w : Gains) (k : ℕ) : Type 0 where
+  pub inX : wordBit (w .x) k ≡ productsAt (T .fTaps) (inStep k x) % 2
+  pub inY : wordBit (w .y) k ≡ productsAt (exchange (T .gTaps)) (inStep k y) % 2
+
+-- f of X and g of Y in step k
+pub record Fed (T : Taps) (x y : Register) (w : Gains) (k : ℕ) : Type 0 where
+  pub ofX : wordBit (w .x) k ≡ f T (inStep k x)
+  pub ofY : wordBit (w .y) k ≡ g T (inStep k y)
 
 -- what X and Y gain in step k, but for the linear taps of f and g; bit k of l is L's first bit in that step
 pub record Rest (T : Taps) (x y : Register) (l : ℕ) (w : Gains) (k : ℕ) : Type 0 where
@@ -91,3 +107,8 @@ pub record Fitting (T : Taps) (x y : Register) (l : ℕ) : Type 0 where
 pub record Stepped (T : Taps) (n : ℕ) (x y : Register) (l : ℕ) (s : State) : Type 0 where
   pub fitting : Fitting T (s .x) (s .y) (s .l)
   pub stepped : held T (value (s .x)) (value (s .y)) (s .l) ≡ steps T n (held T (value x) (value y) l)
+
+-- the words of a state, taken n steps, are x, y and l
+pub record Preceding (T : Taps) (n : ℕ) (x y : Register) (l : ℕ) (s : State) : Type 0 where
+  pub fitting : Fitting T (s .x) (s .y) (s .l)
+  pub redone : steps T n (held T (value (s .x)) (value (s .y)) (s .l)) ≡ held T (value x) (value y) l

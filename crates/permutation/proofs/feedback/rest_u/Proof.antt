@@ -1,18 +1,13 @@
 -- `permutation::feedback::rest_u` meets its contract. Assumes nothing.
 use Prim.Native.Nat.{_^_, _<_}
 use borrow.Author.Needs.{needs}
-use Rattle.quark.specs.Feedback.{exchange}
 use Rattle.quark.specs.Instance.{U}
-use Rattle.permutation.specs.leaf.Words.{productsAt}
 use Rattle.permutation.proofs.Feeds.{rest-bits}
 use Rattle.permutation.proofs.feedback.rest_u.Statement.{statement}
 use Rattle.permutation.proofs.feedback.rest_u.Tie as tie
 
-products-at-requires : tie.Need-products-at-requires
-products-at-requires c κs = search needs
-
-products-at-requires-2 : tie.Need-products-at-requires-2
-products-at-requires-2 c κs = search needs
+products-u-requires : tie.Need-products-u-requires
+products-u-requires c κs = search needs
 
 h-u-requires : tie.Need-h-u-requires
 h-u-requires c κs = search needs
@@ -21,15 +16,14 @@ low : (s : tie.Start) → s .args .y .lo < 2 ^ 64
 low s = search needs
 
 returns : tie.Need-returns
-unfolding productsAt exchange U
 returns c k b =
-    let mixed = c .before in
-    let g = mixed .before in
-    let f = g .before in
-    let s = f .before in
+    let mixed = c .before .before .before in
+    let products = mixed .before in
+    let s = products .before in
     let a = s .args in
-    rest-bits (U .taps) (a .x) (a .y) (a .l) k (f .products-at .result) (g .products-at2 .result) (mixed .h-u .result) b (low s)
-    (f .products-at .ensures k b) (g .products-at2 .ensures k b) (mixed .h-u .ensures k b)
+    let p = products .products-u .result in
+    let e = products .products-u .ensures k b in
+    rest-bits (U .taps) (a .x) (a .y) (a .l) k (p .x) (p .y) (mixed .h-u .result) b (low s) (e .inX) (e .inY) (mixed .h-u .ensures k b)
 
 pub rest-u-spec : {M : Type 1} → statement M
-rest-u-spec = tie.close (tie.spec products-at-requires products-at-requires-2 h-u-requires returns)
+rest-u-spec = tie.close (tie.spec products-u-requires h-u-requires returns)

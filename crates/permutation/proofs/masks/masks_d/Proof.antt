@@ -1,0 +1,15 @@
+-- `permutation::masks::masks_d` meets its contract: the places of the masks are the linear taps, by computation. Assumes nothing.
+use mathlib.Core.Path.{refl}
+use Rattle.quark.specs.Feedback.{exchange}
+use Rattle.quark.specs.Instance.{D}
+use Rattle.quark.specs.leaf.Word.{putIf, placesFrom}
+use Rattle.permutation.specs.leaf.Words.{linearTaps}
+use Rattle.permutation.proofs.masks.masks_d.Statement.{statement}
+use Rattle.permutation.proofs.masks.masks_d.Tie as tie
+
+returns : tie.Need-returns
+unfolding D placesFrom putIf linearTaps exchange
+returns c = record { fPlaces = refl; gPlaces = refl }
+
+pub masks-d-spec : {M : Type 1} → statement M
+masks-d-spec = tie.close (tie.spec returns)

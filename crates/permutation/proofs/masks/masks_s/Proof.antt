@@ -1,0 +1,15 @@
+-- `permutation::masks::masks_s` meets its contract: the places of the masks are the linear taps, by computation. Assumes nothing.
+use mathlib.Core.Path.{refl}
+use Rattle.quark.specs.Feedback.{exchange}
+use Rattle.quark.specs.Instance.{S}
+use Rattle.quark.specs.leaf.Word.{putIf, placesFrom}
+use Rattle.permutation.specs.leaf.Words.{linearTaps}
+use Rattle.permutation.proofs.masks.masks_s.Statement.{statement}
+use Rattle.permutation.proofs.masks.masks_s.Tie as tie
+
+returns : tie.Need-returns
+unfolding S placesFrom putIf linearTaps exchange
+returns c = record { fPlaces = refl; gPlaces = refl }
+
+pub masks-s-spec : {M : Type 1} → statement M
+masks-s-spec = tie.close (tie.spec returns)
