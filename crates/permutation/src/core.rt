@@ -16,6 +16,7 @@ use crate::bytes;
 use crate::lines;
 use crate::serial;
 use crate::words;
+use crate::words_back;
 
 // L at the start of P.
 pub const ALL_ONES: u32 = 1023;
@@ -42,11 +43,14 @@ pub fn turn(inverse: bool, bits: &mut [u8; 256], instance: u32, width: u32)
         ≡ turned inverse (instanceOf instance .taps) (take (instanceOf instance .b) (now (bits .entry))) ++ drop (instanceOf instance .b) (now (bits .entry)) ⌝ }
 {
     let count = rounds(instance);
-    if inverse {
-        return serial::undo(bits, instance, ALL_ONES, count);
-    }
     if width == 1 {
+        if inverse {
+            return serial::undo(bits, instance, ALL_ONES, count);
+        }
         return serial::run(bits, instance, ALL_ONES, count);
+    }
+    if inverse {
+        return words_back::undo(bits, instance, width, ALL_ONES, count);
     }
     words::run(bits, instance, width, ALL_ONES, count)
 }
