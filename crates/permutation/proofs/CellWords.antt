@@ -13,7 +13,7 @@ use Rattle.quark.specs.Step.{loaded, stored}
 use Rattle.quark.specs.leaf.Word.{wordBit, wordBits}
 use Rattle.quark.proofs.Together.{registers-path}
 use Rattle.quark.proofs.Word.{length-wordBits, append-wordBits, cons-wordBits, snoc-wordBits}
-use Rattle.permutation.specs.leaf.Words.{written, held}
+use Rattle.permutation.specs.leaf.Words.{written, wordRegisters}
 
 -- r holds the k bits of s from place p on
 abbrev pub Holds : List ℕ → (k p r : ℕ) → Type 0
@@ -99,18 +99,18 @@ drop-take : (a c : ℕ) (s : List ℕ) → a ≤ length s → drop a (take (a + 
 drop-take a c s h = ap (drop a) (sym (take-take-drop a c s)) ∙ drop-at (take a s) (take c (drop a s)) a (length-take-le a s h)
 
 -- cells that hold X and then Y are the registers that the words hold
-pub loaded-held : (T : Taps) (s : List ℕ) (b x y l : ℕ) → b ≡ T .half + T .half → b ≤ length s → wordBits (T .half) x ≡ take (T .half) (drop 0 s)
-    → wordBits (T .half) y ≡ take (T .half) (drop (T .half) s) → loaded T (take b s) (wordBits 10 l) ≡ held T x y l
-unfolding loaded held
-loaded-held T s b x y l e h ex ey =
+pub loaded-words : (T : Taps) (s : List ℕ) (b x y l : ℕ) → b ≡ T .half + T .half → b ≤ length s → wordBits (T .half) x ≡ take (T .half) (drop 0 s)
+    → wordBits (T .half) y ≡ take (T .half) (drop (T .half) s) → loaded T (take b s) (wordBits 10 l) ≡ wordRegisters T x y l
+unfolding loaded wordRegisters
+loaded-words T s b x y l e h ex ey =
     registers-path (ap (λ (n : ℕ). take (T .half) (take n s)) e ∙ take-take (T .half) (T .half) s (omega arith) ∙ sym ex)
     (ap (λ (n : ℕ). drop (T .half) (take n s)) e ∙ drop-take (T .half) (T .half) s (omega arith) ∙ sym ey) refl
 
 -- the words written to the cells are the registers stored there
-pub stored-held : (T : Taps) (s : List ℕ) (b x y l : ℕ) → b ≡ T .half + T .half → b ≤ length s → x < 2 ^ T .half
-    → written (written s 0 (T .half) x) (T .half) (T .half) y ≡ stored (held T x y l) ++ drop b s
-unfolding stored held
-stored-held T s b x y l e h less =
+pub stored-words : (T : Taps) (s : List ℕ) (b x y l : ℕ) → b ≡ T .half + T .half → b ≤ length s → x < 2 ^ T .half
+    → written (written s 0 (T .half) x) (T .half) (T .half) y ≡ stored (wordRegisters T x y l) ++ drop b s
+unfolding stored wordRegisters
+stored-words T s b x y l e h less =
     let half = T .half in
     ap (λ (n : ℕ). written (written s 0 half x) n half y) (sym (zero-add half))
     ∙ written-words s half half 0 y x (rw zero-add (omega arith)) less

@@ -16,7 +16,7 @@ use Rattle.quark.proofs.Together.{registers-path, gainX-local, gainY-local, ste
 use Rattle.quark.proofs.Word.{wordBit-lt, wordBit-shr, wordBit-mod, length-wordBits, getD-wordBits}
 use Rattle.permutation.specs.declared.registers.Register.{Register}
 use Rattle.permutation.specs.declared.feedback.Gains.{Gains}
-use Rattle.permutation.specs.leaf.Words.{value, inStep, Fed, held, Preceding}
+use Rattle.permutation.specs.leaf.Words.{value, inStep, Fed, wordRegisters, Preceding}
 use Rattle.permutation.proofs.LStrides.{first-bit, below}
 use Rattle.permutation.proofs.MovedUp.{low-bit, high-bit, up-lt, up-moved}
 use Rattle.permutation.proofs.SpreadTaps.{Spread, read-first, f-first, g-first, h-above}
@@ -74,14 +74,14 @@ module _ (T : Taps) (lawful : Lawful T) (spread : Spread T) where
       (foundX : (k : ℕ) → k < 4 → wordBit a k ≡ (wordBit x (p + k) + wordBit y (p + k) + f T (wordBit (raised x p 0 / 2 ^ k)) + g T (wordBit (raised y p 0 / 2 ^ k))) % 2)
       (foundY : (k : ℕ) → k < 4 → wordBit b k ≡ (wordBit y (p + k) + g T (wordBit (raised y p 0 / 2 ^ k)) + h T (wordBit (raised x p a / 2 ^ k)) (wordBit (raised y p b / 2 ^ k)) (λ i. wordBit before k)) % 2) where
     s : Registers
-    s = held T (raised x p a) (raised y p b) before
+    s = wordRegisters T (raised x p a) (raised y p b) before
 
     -- the bits that the taps reach in step j
     reached : (n j : ℕ) → j < 4 → (i : ℕ) → i + 4 ≤ T .half → from j (bit (wordBits (T .half) n)) i ≡ wordBit (n / 2 ^ j) i
     reached n j less i q = getD-wordBits (T .half) n (j + i) (omega arith) ∙ sym (wordBit-shr n j i)
 
     gainedX : (j : ℕ) → j < 4 → gains gainX T s j ≡ wordBit x (p + j)
-    unfolding s held gains gainX
+    unfolding s wordRegisters gains gainX
     gainedX j less =
         let X = wordBit (raised x p a / 2 ^ j) in
         let Y = wordBit (raised y p b / 2 ^ j) in
@@ -92,7 +92,7 @@ module _ (T : Taps) (lawful : Lawful T) (spread : Spread T) where
         (wordBit-lt x (p + j)) (foundX j less) (read-first (y % 2 ^ p) 4 b j small-b less ∙ foundY j less) (f-first T lawful spread (x % 2 ^ p) a j small-a less)
 
     gainedY : (j : ℕ) → j < 4 → gains gainY T s j ≡ wordBit y (p + j)
-    unfolding s held gains gainY
+    unfolding s wordRegisters gains gainY
     gainedY j less =
         let X = wordBit (raised x p a / 2 ^ j) in
         let Y = wordBit (raised y p b / 2 ^ j) in
@@ -103,8 +103,8 @@ module _ (T : Taps) (lawful : Lawful T) (spread : Spread T) where
         (g-first T lawful spread (y % 2 ^ p) b j small-b less)
 
     -- four steps lead from the registers that were found to x, y and l
-    pub stride-steps : stepsL 4 (wordBits 10 before) ≡ wordBits 10 l → steps T 4 (held T (raised x p a) (raised y p b) before) ≡ held T x y l
-    unfolding s held moved
+    pub stride-steps : stepsL 4 (wordBits 10 before) ≡ wordBits 10 l → steps T 4 (wordRegisters T (raised x p a) (raised y p b) before) ≡ wordRegisters T x y l
+    unfolding s wordRegisters moved
     stride-steps el =
         steps-together T lawful 4 reach s (length-wordBits (T .half) (raised x p a)) (length-wordBits (T .half) (raised y p b))
         ∙ registers-path (up-moved (T .half) x p 4 a (gains gainX T s) e small-a gainedX) (up-moved (T .half) y p 4 b (gains gainY T s) e small-b gainedY) el
@@ -160,6 +160,6 @@ module _ (T : Taps) (lawful : Lawful T) (spread : Spread T) where
         record {
           fitting = record { fitsX = fits (value x) a (value x4) (fa .0) ex4; fitsY = fits (value y) b (value y4) small-b ey4; fitsL = small };
           redone =
-              ap₂ (λ (m n : ℕ). steps T 4 (held T m n before)) ex4 ey4
+              ap₂ (λ (m n : ℕ). steps T 4 (wordRegisters T m n before)) ex4 ey4
               ∙ stride-steps reach p e (value x) (value y) l before a b (fa .0) small-b foundX foundY el;
         }

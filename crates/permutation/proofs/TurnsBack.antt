@@ -17,8 +17,8 @@ use Rattle.quark.proofs.Together.{steps-add}
 use Rattle.permutation.specs.declared.registers.Register.{Register}
 use Rattle.permutation.specs.declared.words.State.{State}
 use Rattle.permutation.specs.leaf.Core.{undone}
-use Rattle.permutation.specs.leaf.Words.{value, written, Width, held, Fitting, Preceding}
-use Rattle.permutation.proofs.CellWords.{loaded-held, stored-held}
+use Rattle.permutation.specs.leaf.Words.{value, written, Width, wordRegisters, Fitting, Preceding}
+use Rattle.permutation.proofs.CellWords.{loaded-words, stored-words}
 use Rattle.permutation.proofs.SerialSteps.{wide-wordBits}
 
 -- a turn is whole strides
@@ -46,7 +46,7 @@ no-stride T x y l fits = record { fitting = fits; redone = refl }
 pub one-stride-more : (T : Taps) (n w : ℕ) (x y : Register) (l : ℕ) (t u : State) → Preceding T n x y l t → Preceding T w (t .x) (t .y) (t .l) u
     → Preceding T (n + w) x y l u
 one-stride-more T n w x y l t u a b =
-    let s = held T (value (u .x)) (value (u .y)) (u .l) in
+    let s = wordRegisters T (value (u .x)) (value (u .y)) (u .l) in
     record {
       fitting = b .fitting;
       redone = ap (λ (k : ℕ). steps T k s) (add-comm n w) ∙ steps-add T w n s ∙ ap (steps T n) (b .redone) ∙ a .redone;
@@ -54,9 +54,9 @@ one-stride-more T n w x y l t u a b =
 
 -- ---- the cells
 
-sized-held : (T : Taps) (x y l : ℕ) → Sized T (held T x y l)
-unfolding held
-sized-held T x y l = record {
+sized-words : (T : Taps) (x y l : ℕ) → Sized T (wordRegisters T x y l)
+unfolding wordRegisters
+sized-words T x y l = record {
   wideX = wide-wordBits (T .half) x;
   wideY = wide-wordBits (T .half) y;
   wideL = wide-wordBits 10 l;
@@ -70,10 +70,10 @@ module _ (I : Instance) (lawful : Lawful (I .taps)) (s : List ℕ) (e : I .b ≡
       → written (written s 0 (I .taps .half) (value (t .x))) (I .taps .half) (I .taps .half) (value (t .y)) ≡ undone I l n s
   unfolding undone
   undone-words a =
-      let found = held (I .taps) (value (t .x)) (value (t .y)) (t .l) in
-      let begun : held (I .taps) (value x) (value y) after ≡ loaded (I .taps) (take (I .b) s) (stepsL n (wordBits 10 l)) =
-      sym (loaded-held (I .taps) s (I .b) (value x) (value y) after e long ex ey) ∙ ap (loaded (I .taps) (take (I .b) s)) el in
-      stored-held (I .taps) s (I .b) (value (t .x)) (value (t .y)) (t .l) e long (a .fitting .fitsX)
+      let found = wordRegisters (I .taps) (value (t .x)) (value (t .y)) (t .l) in
+      let begun : wordRegisters (I .taps) (value x) (value y) after ≡ loaded (I .taps) (take (I .b) s) (stepsL n (wordBits 10 l)) =
+      sym (loaded-words (I .taps) s (I .b) (value x) (value y) after e long ex ey) ∙ ap (loaded (I .taps) (take (I .b) s)) el in
+      stored-words (I .taps) s (I .b) (value (t .x)) (value (t .y)) (t .l) e long (a .fitting .fitsX)
       ∙ ap (λ (r : Registers). stored r ++ drop (I .b) s)
-      (sym (undo-steps (I .taps) lawful n found (sized-held (I .taps) (value (t .x)) (value (t .y)) (t .l)))
+      (sym (undo-steps (I .taps) lawful n found (sized-words (I .taps) (value (t .x)) (value (t .y)) (t .l)))
       ∙ ap (undoSteps (I .taps) n) (a .redone ∙ begun))

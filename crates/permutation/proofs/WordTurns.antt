@@ -23,10 +23,10 @@ use Rattle.permutation.specs.declared.registers.Register.{Register}
 use Rattle.permutation.specs.declared.feedback.Gains.{Gains}
 use Rattle.permutation.specs.declared.words.State.{State}
 use Rattle.permutation.specs.leaf.Core.{ran}
-use Rattle.permutation.specs.leaf.Words.{value, written, inStep, productsAt, linearTaps, Rest, maskSum, pack, Width, grown, held, Fitting, Stepped}
+use Rattle.permutation.specs.leaf.Words.{value, written, inStep, productsAt, linearTaps, Rest, maskSum, pack, Width, grown, wordRegisters, Fitting, Stepped}
 use Rattle.permutation.proofs.Sums.{xor-sum, maskSum-lt, bit-pack}
 use Rattle.permutation.proofs.Feeds.{feedback-split}
-use Rattle.permutation.proofs.CellWords.{loaded-held, stored-held}
+use Rattle.permutation.proofs.CellWords.{loaded-words, stored-words}
 use Rattle.permutation.proofs.LStrides.{Firsts}
 use Rattle.permutation.proofs.MovedUp.{tabulate-word}
 
@@ -67,14 +67,14 @@ module _ (T : Taps) (lawful : Lawful T) (w : ℕ) (reach : Reach T w) (p : ℕ) 
     (fits : Fitting T x y l) (firsts : Firsts w l word) (rest : Gains) (rests : (k : ℕ) → k < 64 → Rest T x y word rest k) (fMask gMask : ℕ)
     (fPlaces : placesFrom 128 0 fMask ≡ linearTaps (T .fTaps)) (gPlaces : placesFrom 128 0 gMask ≡ linearTaps (exchange (T .gTaps))) where
   s : Registers
-  s = held T (value x) (value y) l
+  s = wordRegisters T (value x) (value y) l
 
   -- the bits that the taps reach in step j
   reached : (n j : ℕ) → j < w → (i : ℕ) → i + w ≤ T .half → from j (bit (wordBits (T .half) n)) i ≡ wordBit (n / 2 ^ j) i
   reached n j less i q = getD-wordBits (T .half) n (j + i) (omega arith) ∙ sym (wordBit-shr n j i)
 
   newX : (j : ℕ) → j < w → gains gainX T s j ≡ wordBit (bitXor (rest .x) (pack (maskSum (value x) fMask) w) % 2 ^ w) j
-  unfolding s held gains gainX f
+  unfolding s wordRegisters gains gainX f
   newX j less =
       let X = inStep j x in
       let Y = inStep j y in
@@ -87,7 +87,7 @@ module _ (T : Taps) (lawful : Lawful T) (w : ℕ) (reach : Reach T w) (p : ℕ) 
       ∙ sym (new-bit (value x) (rest .x) fMask w j _ (linearTaps (T .fTaps)) less fPlaces (rests j (omega arith) .intoX))
 
   newY : (j : ℕ) → j < w → gains gainY T s j ≡ wordBit (bitXor (rest .y) (pack (maskSum (value y) gMask) w) % 2 ^ w) j
-  unfolding s held gains gainY g
+  unfolding s wordRegisters gains gainY g
   newY j less =
       let X = inStep j x in
       let Y = inStep j y in
@@ -103,7 +103,7 @@ module _ (T : Taps) (lawful : Lawful T) (w : ℕ) (reach : Reach T w) (p : ℕ) 
   -- a state that holds the registers so moved, and L after w steps, is w steps on
   pub turn-steps : (t : State) → value (t .x) ≡ grown (value x) (rest .x) fMask p w → value (t .y) ≡ grown (value y) (rest .y) gMask p w
       → t .l < 1024 → wordBits 10 (t .l) ≡ stepsL w (wordBits 10 l) → Stepped T w x y l t
-  unfolding s held moved
+  unfolding s wordRegisters moved
   turn-steps t ex ey hl el =
       let lt : (n rest′ mask : ℕ) → n < 2 ^ T .half → grown n rest′ mask p w < 2 ^ T .half =
       λ n rest′ mask b. subst (λ (k : ℕ). grown n rest′ mask p w < 2 ^ k) e (grown-lt n rest′ mask p w (subst (λ (k : ℕ). n < 2 ^ k) (sym e) b)) in
@@ -130,7 +130,7 @@ pub one-turn-more : (T : Taps) (n w : ℕ) (x y : Register) (l : ℕ) (t u : Sta
     → Stepped T (n + w) x y l u
 one-turn-more T n w x y l t u a b = record {
   fitting = b .fitting;
-  stepped = b .stepped ∙ ap (steps T w) (a .stepped) ∙ sym (steps-add T n w (held T (value x) (value y) l));
+  stepped = b .stepped ∙ ap (steps T w) (a .stepped) ∙ sym (steps-add T n w (wordRegisters T (value x) (value y) l));
 }
 
 -- ---- the cells
@@ -142,6 +142,6 @@ module _ (I : Instance) (s : List ℕ) (e : I .b ≡ I .taps .half + I .taps .ha
       → written (written s 0 (I .taps .half) (value (t .x))) (I .taps .half) (I .taps .half) (value (t .y)) ≡ ran I l n s
   unfolding ran
   ran-words a =
-      stored-held (I .taps) s (I .b) (value (t .x)) (value (t .y)) (t .l) e long (a .fitting .fitsX)
+      stored-words (I .taps) s (I .b) (value (t .x)) (value (t .y)) (t .l) e long (a .fitting .fitsX)
       ∙ ap (λ (r : Registers). stored r ++ drop (I .b) s)
-      (a .stepped ∙ ap (steps (I .taps) n) (sym (loaded-held (I .taps) s (I .b) (value x) (value y) l e long ex ey)))
+      (a .stepped ∙ ap (steps (I .taps) n) (sym (loaded-words (I .taps) s (I .b) (value x) (value y) l e long ex ey)))

@@ -94,8 +94,8 @@ unfoldable pub grown : (n rest mask p w : ℕ) → ℕ
 grown n rest mask p w = bitXor rest (pack (maskSum n mask) w) % 2 ^ w * 2 ^ p + n / 2 ^ w
 
 -- the registers that words hold
-unfoldable pub held : Taps → (x y l : ℕ) → Registers
-held T x y l = record { X = wordBits (T .half) x; Y = wordBits (T .half) y; L = wordBits 10 l }
+unfoldable pub wordRegisters : Taps → (x y l : ℕ) → Registers
+wordRegisters T x y l = record { X = wordBits (T .half) x; Y = wordBits (T .half) y; L = wordBits 10 l }
 
 -- words hold no more than the registers' bits
 pub record Fitting (T : Taps) (x y : Register) (l : ℕ) : Type 0 where
@@ -106,9 +106,9 @@ pub record Fitting (T : Taps) (x y : Register) (l : ℕ) : Type 0 where
 -- the words of a state are those of x, y and l after n steps
 pub record Stepped (T : Taps) (n : ℕ) (x y : Register) (l : ℕ) (s : State) : Type 0 where
   pub fitting : Fitting T (s .x) (s .y) (s .l)
-  pub stepped : held T (value (s .x)) (value (s .y)) (s .l) ≡ steps T n (held T (value x) (value y) l)
+  pub stepped : wordRegisters T (value (s .x)) (value (s .y)) (s .l) ≡ steps T n (wordRegisters T (value x) (value y) l)
 
 -- the words of a state, taken n steps, are x, y and l
 pub record Preceding (T : Taps) (n : ℕ) (x y : Register) (l : ℕ) (s : State) : Type 0 where
   pub fitting : Fitting T (s .x) (s .y) (s .l)
-  pub redone : steps T n (held T (value (s .x)) (value (s .y)) (s .l)) ≡ held T (value x) (value y) l
+  pub redone : steps T n (wordRegisters T (value (s .x)) (value (s .y)) (s .l)) ≡ wordRegisters T (value x) (value y) l

@@ -24,8 +24,8 @@ loop-holds c = (search needs, turned-start (instanceOf (c .args .instance)) (c .
 
 step-requires : tie.Need-step-requires Inv-loop μ-loop
 step-requires c κs =
-    let held = c .before .before .loop .inv .1 in
-    (held .small, (held .full, held .cells))
+    let wordRegisters = c .before .before .loop .inv .1 in
+    (wordRegisters .small, (wordRegisters .full, wordRegisters .cells))
 
 add-t : tie.Need-add-t Inv-loop μ-loop
 add-t c = search needs

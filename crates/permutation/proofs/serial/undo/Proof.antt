@@ -41,8 +41,8 @@ loop-holds c =
 
 undo-step-requires : tie.Need-undo-step-requires Inv-loop μ-loop
 undo-step-requires c κs =
-    let held = c .before .before .loop .inv .1 in
-    (held .small, (held .full, held .cells))
+    let wordRegisters = c .before .before .loop .inv .1 in
+    (wordRegisters .small, (wordRegisters .full, wordRegisters .cells))
 
 sub-t : tie.Need-sub-t Inv-loop μ-loop
 sub-t c = search needs
@@ -56,11 +56,11 @@ loop-again c =
     let a = c .before .before .before .before .before .args in
     let l = c .before .before .before .loop in
     let T = instanceOf (a .instance) .taps in
-    let held = l .inv .1 in
+    let wordRegisters = l .inv .1 in
     let next = c .undo-step .ensures in
     let e : l .t ≡ suc (l .t - 1) = omega arith in (
       omega arith,
-      record { holds = refl; rest = next .rest ∙ held .rest; small = next .small; full = next .full; cells = next .cells },
+      record { holds = refl; rest = next .rest ∙ wordRegisters .rest; small = next .small; full = next .full; cells = next .cells },
       ap (undoSteps T (l .t - 1)) (next .holds)
           ∙ ap (λ (t : ℕ). undoSteps T t (registers (instanceOf (a .instance)) (l .bits) (l .l-now))) (sym e)
           ∙ l .inv .2,
