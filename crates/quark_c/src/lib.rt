@@ -7,6 +7,9 @@ ghost use Rattle.permutation.specs.Outcome.{outcomeOf, numberOf};
 ghost use Rattle.permutation.specs.Permute.{permuteOutcome, overwritten};
 use permutation::Answer;
 
+mod digest;
+mod journals;
+
 // What a C host gets for an answer: 0 where the call was accepted, else the refusal's number.
 fn number_of(answer: Answer) -> u32
     ensures { λ r. ⌜ r ≡ numberOf (outcomeOf answer) ⌝ }

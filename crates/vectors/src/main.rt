@@ -1,7 +1,7 @@
 // Appendix B of the paper (document 001), run at each width of each instance: the state after the padding of the empty message is
-// added, the states that the permutation makes of it in turn, as many as the paper lists, and the first state again after as many
-// inverses. Then L after 10 and 1,023 steps (document 01, "Sample values"). What must be written, in `stdout`, is typed from those
-// documents.
+// added, the states that the permutation makes of it in turn, as many as the paper lists, the first state again after as many inverses,
+// and the digest of the empty message. Then L after 10 and 1,023 steps (document 01, "Sample values"). What must be written, in `stdout`,
+// is typed from those documents.
 ghost use Prim.Native.Nat.{_<_};
 use libc::STDOUT_FILENO;
 use permutation::Answer;
@@ -76,6 +76,9 @@ fn write_vectors(heading: &[u8], instance: u32, width: u32, runs: u32, state: &m
     permute_often(instance, width, runs, state);
     io::write_all(STDOUT_FILENO, b"inverted\n");
     invert_often(instance, width, runs, state);
+    write_state(state);
+    io::write_all(STDOUT_FILENO, b"digest\n");
+    write_refusal(sponge::digest(instance, width, b"", 0, state));
     write_state(state);
 }
 

@@ -1,19 +1,34 @@
-//! Safe wrappers over the proved functions of `quark_c` (QUARK's permutation and its inverse).
+//! Safe wrappers over the proved functions of `quark_c`: QUARK's permutation, its inverse and its digest, and the sealed journal.
 //!
-//! Instance 1 is U-QUARK (a state of 17 bytes), 2 is D-QUARK (22 bytes), 3 is S-QUARK (32 bytes). A step width says how many steps
-//! are taken together: 1 or 8, and 16 for instance 3 alone. Every width gives the same bytes. State bit i is in byte i div 8 with
-//! weight 2 to the (7 - i mod 8).
+//! Instance 1 is U-QUARK (states and digests of 17 bytes), 2 is D-QUARK (22 bytes), 3 is S-QUARK (32 bytes). A step width says how many
+//! steps are taken together: 1 or 8, and 16 for instance 3 alone. Every width gives the same bytes. Bit i of a state or a message is in
+//! byte i div 8 with weight 2 to the (7 - i mod 8).
 //!
-//! A refusal is a number: 1, the instance is not 1, 2 or 3; 4, the width is not one of the instance's; 5, the buffer's length is not
-//! the instance's. The first of them that holds is answered, and the buffer is left as it was.
+//! A refusal is a number. The first that holds, in this order, is answered, and what would be written is left as it was:
+//!
+//! | Number | Holds where |
+//! |---|---|
+//! | 1 | the instance is not 1, 2 or 3 |
+//! | 4 | the width is not one of the instance's |
+//! | 5 | the buffer's length is not the instance's, or a key, previous seal, body or record is not 16, 17, 23 or 40 bytes |
+//! | 6 | the bit count is over 8 times the message's bytes |
+//! | 7 | the bit count is over 16,777,215 |
+//! | 9 | the journal is over 64,000 bytes or no multiple of 40 |
+//! | 10 | a body breaks the layout |
+//! | 11 | a record's station, sequence or time doesn't follow |
+//! | 12 | a seal differs |
+//!
+//! In a journal, 10, 11 and 12 are tested record by record.
 //!
 //! The functions keep no state of their own, so that threads may call them at the same time.
 
-extern "C" {
-    // A slice is two arguments: the pointer, then the length.
-    fn quark_permute(instance: u32, width: u32, state: *mut u8, state_len: usize) -> u32;
-    fn quark_invert(instance: u32, width: u32, state: *mut u8, state_len: usize) -> u32;
-}
+mod digest;
+mod journal;
+mod permutation;
+
+pub use digest::digest;
+pub use journal::{refused_at, seal, verify, Refused};
+pub use permutation::{invert, permute};
 
 /// No error where the answer is 0, else the refusal's number.
 fn accepted(answer: u32) -> Result<(), u32> {
@@ -21,39 +36,4 @@ fn accepted(answer: u32) -> Result<(), u32> {
         0 => Ok(()),
         number => Err(number),
     }
-}
-
-/// Puts the permutation of `state` in its place, or answers the refusal's number and leaves `state` as it was.
-///
-/// The paper's Appendix B gives a state of U-QUARK and what the permutation makes of it:
-///
-/// ```
-/// let mut state = [
-///     0xD8, 0xDA, 0xCA, 0x44, 0x41, 0x4A, 0x09, 0x97, 0x19, 0xC8, 0x0A, 0xA3, 0xAF, 0x06, 0x56, 0x44, 0x5B,
-/// ];
-/// assert_eq!(wilbroged::permute(1, 8, &mut state), Ok(()));
-/// assert_eq!(
-///     state,
-///     [0x9A, 0x03, 0xA9, 0xDE, 0xFB, 0xB9, 0xED, 0x38, 0x67, 0xDA, 0xB1, 0x8E, 0xC0, 0x39, 0x27, 0x62, 0x12],
-/// );
-///
-/// // Width 16 is for S-QUARK alone.
-/// assert_eq!(wilbroged::permute(1, 16, &mut state), Err(4));
-/// ```
-pub fn permute(instance: u32, width: u32, state: &mut [u8]) -> Result<(), u32> {
-    // SAFETY: the pointer and the length are those of a slice that is lent for the call, and the function writes nothing else.
-    accepted(unsafe { quark_permute(instance, width, state.as_mut_ptr(), state.len()) })
-}
-
-/// Puts the inverse of the permutation on `state` in its place, or answers the refusal's number and leaves `state` as it was.
-///
-/// ```
-/// let mut state = [7; 32];
-/// wilbroged::permute(3, 16, &mut state).unwrap();
-/// wilbroged::invert(3, 1, &mut state).unwrap();
-/// assert_eq!(state, [7; 32]);
-/// ```
-pub fn invert(instance: u32, width: u32, state: &mut [u8]) -> Result<(), u32> {
-    // SAFETY: as in `permute`.
-    accepted(unsafe { quark_invert(instance, width, state.as_mut_ptr(), state.len()) })
 }

@@ -1,5 +1,5 @@
-//! The declarations of `src/lib.rs` are those of the exported functions in `crates/quark_c/src/lib.rt`. Nothing else compares them: a
-//! linker sees names alone.
+//! The declarations of `src` are those of the exported functions in `crates/quark_c/src`. Nothing else compares them: a linker sees names
+//! alone.
 use std::collections::BTreeMap;
 use std::fs;
 
@@ -41,18 +41,26 @@ fn without_comments(source: &str) -> String {
     source.lines().map(|line| line.split("//").next().unwrap()).collect::<Vec<_>>().join("\n")
 }
 
+/// The sources with an ending in a folder, one after the other, without their comments.
+fn sources(folder: &str, ending: &str) -> String {
+    let folder = format!("{}/{folder}", env!("CARGO_MANIFEST_DIR"));
+    let paths = fs::read_dir(folder).unwrap().map(|entry| entry.unwrap().path());
+    let texts =
+        paths.filter(|path| path.extension().is_some_and(|found| found == ending)).map(|path| fs::read_to_string(path).unwrap());
+    texts.map(|text| without_comments(&text)).collect::<Vec<_>>().join("\n")
+}
+
 #[test]
 fn declarations_match_the_rattle_source() {
-    let folder = env!("CARGO_MANIFEST_DIR");
-    let rattle = without_comments(&fs::read_to_string(format!("{folder}/../../crates/quark_c/src/lib.rt")).unwrap());
-    let rust = without_comments(&fs::read_to_string(format!("{folder}/src/lib.rs")).unwrap());
+    let rattle = sources("../../crates/quark_c/src", "rt");
+    let rust = sources("src", "rs");
 
     let exported: BTreeMap<_, Signature> = signatures(&rattle, "pub extern \"C\" fn ", &['\n', '{'])
         .into_iter()
         .map(|(name, (parameters, result))| (name, (parameters.into_iter().flat_map(in_c).collect(), result)))
         .collect();
-    let block = rust.split("extern \"C\" {").nth(1).expect("a block of declarations");
-    let declared = signatures(block.split('}').next().unwrap(), "fn ", &[';']);
+    let blocks = rust.split("extern \"C\" {").skip(1).map(|block| block.split('}').next().unwrap());
+    let declared: BTreeMap<_, Signature> = blocks.flat_map(|block| signatures(block, "fn ", &[';'])).collect();
 
     assert!(exported.contains_key("quark_permute") && exported.contains_key("quark_invert"));
     assert_eq!(declared, exported);

@@ -1,17 +1,11 @@
 //! The proved permutation and inverse agree with the independent implementation at every width of every instance: on random states
 //! with fixed seeds, on the states with no bit, all bits or one bit set, and on the paper's Appendix B.
+mod widths;
+
 use reference::random::Random;
 use reference::{appendix_b, state_bytes};
+use widths::widths;
 use wilbroged::{invert, permute};
-
-/// The widths of an instance.
-fn widths(instance: u32) -> &'static [u32] {
-    if instance == 3 {
-        &[1, 8, 16]
-    } else {
-        &[1, 8]
-    }
-}
 
 /// Compares permutation and inverse of one state at the given widths with the independent implementation.
 fn compare(instance: u32, widths: &[u32], start: &[u8]) {

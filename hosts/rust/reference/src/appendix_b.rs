@@ -1,6 +1,7 @@
 //! The test values of the paper's Appendix B (document 001), from its text: for each instance the state after the padding of the
 //! empty message is added, and what the permutation makes of it each time. The state after the very last permutation is not listed
-//! there.
+//! there, the digest is.
+use crate::hexadecimal::bytes;
 
 /// The states of U-QUARK, in the paper's order.
 pub const U: [&str; 17] = [
@@ -61,7 +62,12 @@ pub fn states(instance: u32) -> Vec<Vec<u8>> {
     texts.iter().map(|text| bytes(text)).collect()
 }
 
-/// The bytes of a text of hexadecimal digits, two digits to a byte.
-fn bytes(text: &str) -> Vec<u8> {
-    (0..text.len() / 2).map(|i| u8::from_str_radix(&text[2 * i..2 * i + 2], 16).unwrap()).collect()
+/// The digest of the empty message, for instance 1 (U), 2 (D) or 3 (S).
+pub fn digest_of_nothing(instance: u32) -> Vec<u8> {
+    bytes(match instance {
+        1 => "126B75BCAB23144750D08BA313BBD800A4",
+        2 => "82C7F380E231578E2FF4C2A402E18BF37AEA8477298D",
+        3 => "03256214B92E811C321AE86BAB4B0E7AE9C22C42882FCCDE8C22BFF6A0A1D6F1",
+        _ => panic!("no instance {instance}"),
+    })
 }

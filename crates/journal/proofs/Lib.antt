@@ -1,0 +1,13 @@
+-- The laws of records, journals and lines.
+pub mod Growing
+pub mod Decimal
+pub mod Found
+pub mod Compared
+pub mod Gathered
+pub mod SealRuns
+pub mod Places
+pub mod Turns
+pub mod Accepted
+pub mod Fits
+pub mod SealedInTurn
+pub mod Samples

@@ -1,0 +1,8 @@
+-- The record, the journal, and what the operations of this crate answer.
+pub mod Record
+pub mod Seal
+pub mod Journal
+pub mod FirstRefusal
+pub mod InTurn
+pub mod Report
+pub mod leaf

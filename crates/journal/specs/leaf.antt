@@ -1,0 +1,3 @@
+-- Forms that only the contracts of private functions cite.
+pub mod Check
+pub mod Text

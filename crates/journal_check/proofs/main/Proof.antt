@@ -1,0 +1,65 @@
+-- `main` meets its contract: it is safe and ends. Assumes nothing.
+use mathlib.Core.List.{List, _++_}
+use mathlib.Core.Path.{_≡_}
+use Prim.Native.Nat.{ℕ, _-_, _≤_}
+use lib.ListN.{length, replicate, length-append}
+use Rattle.journal.specs.declared.Line.{Line}
+use Rattle.journal.specs.Report.{lineHolding, reportLine}
+use native.Mathlib.Omega.{arith}
+use borrow.Author.Needs.{needs}
+use Rattle.journal_check.proofs.main.Statement.{statement}
+use Rattle.journal_check.proofs.main.Tie as tie
+
+slice-aggregate-read-input : tie.Need-slice-aggregate-read-input
+slice-aggregate-read-input c = search needs
+
+read-input-requires : tie.Need-read-input-requires
+read-input-requires c κs = search needs
+
+sub-report : tie.Need-sub-report
+sub-report c = search needs
+
+part-report-start : tie.Need-part-report-start
+part-report-start c = search needs
+
+part-report-end : tie.Need-part-report-end
+part-report-end c = search needs
+
+report-requires : tie.Need-report-requires
+report-requires c κs = search needs
+
+sub-write-all : tie.Need-sub-write-all
+sub-write-all c = search needs
+
+part-write-all-start : tie.Need-part-write-all-start
+part-write-all-start c = search needs
+
+-- a line's text is within its bytes
+within : (line : Line) (text : List ℕ) → line ≡ lineHolding text → line .len ≤ length (line .bytes)
+unfolding lineHolding
+within line text e = rw e (omega (arith, length-append text (replicate (32 - length text) 0)))
+
+part-write-all-end : tie.Need-part-write-all-end
+part-write-all-end c = within (c .before .before .report .result) (reportLine _) (c .before .before .report .ensures)
+
+write-all-requires : tie.Need-write-all-requires
+write-all-requires c κs = search needs
+
+returns : tie.Need-returns
+returns c = search needs
+
+pub main-spec : {M : Type 1} → statement M
+main-spec =
+    tie.close
+    (tie.spec
+    slice-aggregate-read-input
+    read-input-requires
+    sub-report
+    part-report-start
+    part-report-end
+    report-requires
+    sub-write-all
+    part-write-all-start
+    part-write-all-end
+    write-all-requires
+    returns)

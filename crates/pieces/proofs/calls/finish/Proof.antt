@@ -1,0 +1,43 @@
+-- `finish` is safe and ends. The space has 32 bytes, so that the part for the buffer ends within it. Assumes nothing.
+use mathlib.Core.Path.{_≡_}
+use native.Mathlib.Omega.{arith}
+use lib.ListN.{length}
+use borrow.Author.Needs.{needs}
+use Rattle.pieces.proofs.calls.finish.Statement.{statement}
+use Rattle.pieces.proofs.calls.finish.Tie as tie
+
+within-space-requires : tie.Need-within-space-requires
+within-space-requires c κs = search needs
+
+sub-finish : tie.Need-sub-finish
+sub-finish c = search needs
+
+part-space-start : tie.Need-part-space-start
+part-space-start c = search needs
+
+part-space-end : tie.Need-part-space-end
+part-space-end c =
+    let s = c .before .before .before .args .calls in
+    let n : length (s .space) ≡ 32 = search needs in
+    omega arith
+
+finish-requires : tie.Need-finish-requires
+finish-requires c κs = search needs
+
+with-reply-requires : tie.Need-with-reply-requires
+with-reply-requires c κs = search needs
+
+returns : tie.Need-returns
+returns c = search needs
+
+pub finish-spec : {M : Type 1} → statement M
+finish-spec =
+    tie.close
+    (tie.spec
+    within-space-requires
+    sub-finish
+    part-space-start
+    part-space-end
+    finish-requires
+    with-reply-requires
+    returns)

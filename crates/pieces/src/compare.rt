@@ -1,0 +1,35 @@
+// Comparing bytes, states and calls.
+use crate::calls::Calls;
+use sponge::State;
+
+// Whether two arrays have the same bytes.
+pub fn same(a: &[u8; 32], b: &[u8; 32]) -> bool {
+    let mut i: usize = 0;
+    while i < 32 {
+        if a[i] != b[i] {
+            return false;
+        }
+        i += 1;
+    }
+    true
+}
+
+// Whether two states have the same fields.
+pub fn same_state(a: State, b: State) -> bool {
+    let a_bits = a.bits;
+    let b_bits = b.bits;
+    a.instance == b.instance
+        && a.phase == b.phase
+        && a.total == b.total
+        && a.runs == b.runs
+        && same(&a_bits, &b_bits)
+}
+
+// Whether two lists of calls came to the same state, and to the same bytes in the buffer.
+pub fn same_outcome(a: Calls, b: Calls) -> bool {
+    let a_state = a.state;
+    let b_state = b.state;
+    let a_space = a.space;
+    let b_space = b.space;
+    same_state(a_state, b_state) && same(&a_space, &b_space)
+}

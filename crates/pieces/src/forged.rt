@@ -1,0 +1,265 @@
+// Forged states: a piece and a finish on each, with the number that each gets.
+ghost use Prim.Native.Nat.{_<_};
+use crate::calls;
+use crate::calls::Calls;
+use crate::compare::same_outcome;
+use crate::text::write;
+use crate::text::write_number;
+use crate::widths::digest_bytes;
+use sponge::State;
+
+// Writes the answer of a call, and whether state and buffer are as handed in.
+fn write_answer(before: Calls, after: Calls) {
+    write_number(after.answers % 10);
+    if same_outcome(before, after) {
+        write(b" kept");
+    } else {
+        write(b" changed");
+    }
+}
+
+// One row of the table: a piece of some bits of nine bytes, and a finish with a buffer of some bytes.
+fn write_row(name: &[u8], state: State, width: u32, count: usize, length: usize) {
+    let handed = calls::on(state);
+    write(name);
+    write(b": piece ");
+    write_answer(handed, calls::absorb(handed, width, b"any bytes", count));
+    write(b", finish ");
+    write_answer(handed, calls::finish(handed, width, length));
+    write(b"\n");
+}
+
+// States whose bits are sound: 17, 22 and 32 bytes, and zeros behind.
+pub fn u_bits() -> [u8; 32] {
+    *b"A U-QUARK state..\0\0\0\0\0\0\0\0\0\0\0\0\0\0\0"
+}
+
+pub fn d_bits() -> [u8; 32] {
+    *b"A state for D-QUARK...\0\0\0\0\0\0\0\0\0\0"
+}
+
+pub fn s_bits() -> [u8; 32] {
+    *b"A state of thirty-two bytes of S"
+}
+
+// A state of U with a phase, a total and runs: one byte is taken, and 17 bytes are lent to finish.
+fn write_u(name: &[u8], phase: u32, total: u32, runs: u32) {
+    let bits = u_bits();
+    write_row(
+        name,
+        State {
+            instance: 1,
+            phase,
+            total,
+            runs,
+            bits,
+        },
+        8,
+        8,
+        17,
+    );
+}
+
+// The same of D and of S, with their own lengths.
+fn write_d(name: &[u8], phase: u32, total: u32, runs: u32) {
+    let bits = d_bits();
+    write_row(
+        name,
+        State {
+            instance: 2,
+            phase,
+            total,
+            runs,
+            bits,
+        },
+        8,
+        8,
+        22,
+    );
+}
+
+fn write_s(name: &[u8], phase: u32, total: u32, runs: u32) {
+    let bits = s_bits();
+    write_row(
+        name,
+        State {
+            instance: 3,
+            phase,
+            total,
+            runs,
+            bits,
+        },
+        16,
+        8,
+        32,
+    );
+}
+
+// Sound states, absorbing and closed.
+pub fn write_sound() {
+    write_u(b"U, absorbing", 0, 20, 2);
+    write_d(b"D, absorbing", 0, 100, 6);
+    write_s(b"S, absorbing", 0, 100, 3);
+    write_u(b"U, closed", 1, 20, 19);
+    write_d(b"D, closed", 1, 100, 17);
+    write_s(b"S, closed", 1, 100, 11);
+}
+
+// A state with U's bits and any instance and phase.
+fn write_instance(name: &[u8], instance: u32, phase: u32, width: u32) {
+    let bits = u_bits();
+    write_row(
+        name,
+        State {
+            instance,
+            phase,
+            total: 20,
+            runs: 2,
+            bits,
+        },
+        width,
+        8,
+        17,
+    );
+}
+
+// What `init` hands back where it refuses.
+fn write_zeros() {
+    let bits: [u8; 32] = [0; 32];
+    write_row(
+        b"all zeros",
+        State {
+            instance: 0,
+            phase: 0,
+            total: 0,
+            runs: 0,
+            bits,
+        },
+        8,
+        8,
+        17,
+    );
+}
+
+// Line 1: an instance that is none.
+pub fn write_instances() {
+    write_zeros();
+    write_instance(b"instance 0", 0, 0, 8);
+    write_instance(b"instance 4", 4, 0, 8);
+    write_instance(b"instance 257", 257, 0, 8);
+    write_instance(b"instance 257, phase 2, width 2", 257, 2, 2);
+}
+
+// Line 2: phases that are neither 0 nor 1, and totals past the limit.
+pub fn write_phases_and_totals() {
+    write_u(b"U, phase 2", 2, 20, 2);
+    write_u(b"U, phase 2, runs of a closed state", 2, 20, 19);
+    write_u(b"U, phase 256", 256, 20, 2);
+    write_u(b"U, total 16777216", 0, 16777216, 2097152);
+    write_u(b"U, closed, total 16777216", 1, 16777216, 2097169);
+    write_u(b"U, total 4294967295", 0, 4294967295, 536870911);
+}
+
+// Line 2: runs that are not those of the total.
+pub fn write_runs() {
+    write_u(b"U, a run too few", 0, 20, 1);
+    write_u(b"U, a run too many", 0, 20, 3);
+    write_u(b"U, runs of a closed state", 0, 20, 19);
+    write_u(b"U, closed, a run too few", 1, 20, 18);
+    write_u(b"U, closed, a run too many", 1, 20, 20);
+    write_u(b"U, closed, runs of an absorbing state", 1, 20, 2);
+    write_d(b"D, runs of U", 0, 100, 12);
+    write_s(b"S, runs of D", 0, 100, 6);
+}
+
+// A state whose bytes are all 0 but one.
+fn write_byte(name: &[u8], instance: u32, at: usize)
+    requires { ⌜ at < 32 ⌝ }
+{
+    let mut bits: [u8; 32] = [0; 32];
+    bits[at] = 128;
+    write_row(
+        name,
+        State {
+            instance,
+            phase: 0,
+            total: 0,
+            runs: 0,
+            bits,
+        },
+        8,
+        8,
+        digest_bytes(instance),
+    );
+}
+
+// Line 2: a byte behind the state's own that is not zero.
+pub fn write_bytes_behind() {
+    write_byte(b"U, byte 16 not zero", 1, 16);
+    write_byte(b"U, byte 17 not zero", 1, 17);
+    write_byte(b"U, byte 31 not zero", 1, 31);
+    write_byte(b"D, byte 21 not zero", 2, 21);
+    write_byte(b"D, byte 22 not zero", 2, 22);
+    write_byte(b"S, byte 31 not zero", 3, 31);
+}
+
+// A sound state of U, absorbing or closed, and other arguments.
+fn write_call(name: &[u8], phase: u32, width: u32, count: usize, length: usize) {
+    let bits = u_bits();
+    write_row(
+        name,
+        State {
+            instance: 1,
+            phase,
+            total: 0,
+            runs: 17 * (phase % 2),
+            bits,
+        },
+        width,
+        count,
+        length,
+    );
+}
+
+// Lines 3 to 6, and which of several comes first.
+pub fn write_arguments() {
+    write_call(b"U, closed, width 2, 73 bits, 16 bytes", 1, 2, 73, 16);
+    write_call(b"U, width 2", 0, 2, 8, 17);
+    write_call(b"U, width 16, 73 bits, 16 bytes", 0, 16, 73, 16);
+    write_call(b"U, 73 bits, 16 bytes", 0, 8, 73, 16);
+    write_call(
+        b"U, 18446744073709551615 bits, 18 bytes",
+        0,
+        8,
+        18446744073709551615,
+        18,
+    );
+    write_call(b"U, no bits, no bytes", 0, 8, 0, 0);
+}
+
+// A sound state of U with 7 bits to the limit.
+fn write_near(name: &[u8], width: u32, count: usize) {
+    let bits = u_bits();
+    write_row(
+        name,
+        State {
+            instance: 1,
+            phase: 0,
+            total: 16777208,
+            runs: 2097151,
+            bits,
+        },
+        width,
+        count,
+        17,
+    );
+}
+
+// Line 7, around the greatest total, and lines that come before it.
+pub fn write_totals() {
+    write_near(b"U, 7 bits to the limit", 8, 7);
+    write_near(b"U, one bit past the limit", 8, 8);
+    write_near(b"U, past the limit, 73 bits", 8, 73);
+    write_near(b"U, past the limit, width 2", 2, 8);
+    write_near(b"U, no bits near the limit", 1, 0);
+}

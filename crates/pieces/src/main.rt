@@ -1,0 +1,98 @@
+// Messages cut into pieces, the greatest total, and forged states (document 01, "Pieces and finish"). What must be written, in `stdout`, is
+// from the implementation in hosts/rust/reference, which shares no code with this project's.
+mod calls;
+mod compare;
+mod cuts;
+mod forged;
+mod limit;
+mod message;
+mod text;
+mod widths;
+
+use sponge::State;
+
+// `init`: its number, and the state.
+fn write_init(instance: u32) {
+    let reply = sponge::init(instance);
+    let answer = reply.answer;
+    let state = reply.state;
+    text::write(b"init ");
+    text::write_number(instance as u64);
+    text::write(b": ");
+    text::write_number(calls::number_of(answer) as u64);
+    text::write(b", ");
+    text::write_state(state);
+}
+
+fn write_fresh_states() {
+    write_init(0);
+    write_init(1);
+    write_init(2);
+    write_init(3);
+    write_init(4);
+    write_init(257);
+}
+
+// The first 40 and the first 67 bits of one message, at each instance.
+fn write_messages() {
+    let message = *b"lamp log\xA5";
+    cuts::write_cuts(b"U-QUARK, 40 bits\n", 1, &message, 40);
+    cuts::write_cuts(b"U-QUARK, 67 bits\n", 1, &message, 67);
+    cuts::write_cuts(b"D-QUARK, 40 bits\n", 2, &message, 40);
+    cuts::write_cuts(b"D-QUARK, 67 bits\n", 2, &message, 67);
+    cuts::write_cuts(b"S-QUARK, 40 bits\n", 3, &message, 40);
+    cuts::write_cuts(b"S-QUARK, 67 bits\n", 3, &message, 67);
+}
+
+fn write_limits() {
+    let u = forged::u_bits();
+    let d = forged::d_bits();
+    let s = forged::s_bits();
+    limit::write_limit(
+        b"U-QUARK, 60 bits to the limit\n",
+        State {
+            instance: 1,
+            phase: 0,
+            total: 16777155,
+            runs: 2097144,
+            bits: u,
+        },
+    );
+    limit::write_limit(
+        b"D-QUARK, 60 bits to the limit\n",
+        State {
+            instance: 2,
+            phase: 0,
+            total: 16777155,
+            runs: 1048572,
+            bits: d,
+        },
+    );
+    limit::write_limit(
+        b"S-QUARK, 60 bits to the limit\n",
+        State {
+            instance: 3,
+            phase: 0,
+            total: 16777155,
+            runs: 524286,
+            bits: s,
+        },
+    );
+}
+
+fn write_forged_states() {
+    forged::write_sound();
+    forged::write_instances();
+    forged::write_phases_and_totals();
+    forged::write_runs();
+    forged::write_bytes_behind();
+    forged::write_arguments();
+    forged::write_totals();
+}
+
+fn main() {
+    write_fresh_states();
+    write_messages();
+    write_limits();
+    write_forged_states();
+}

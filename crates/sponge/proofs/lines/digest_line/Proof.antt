@@ -1,0 +1,15 @@
+-- `digest_line` meets its contract: the calls of `first` are the lines in checking order. Assumes nothing.
+use borrow.Author.Needs.{needs}
+use Rattle.permutation.specs.Lines.{line1, line4, line5, firstLine}
+use Rattle.sponge.specs.Outcomes.{digestNumber}
+use Rattle.sponge.proofs.lines.digest_line.Statement.{statement}
+use Rattle.sponge.proofs.lines.digest_line.Tie as tie
+
+returns : tie.Need-returns
+unfolding digestNumber firstLine line1 line4 line5
+returns c = cc
+
+pub digest-line-spec : {M : Type 1} → statement M
+digest-line-spec =
+    tie.close
+    (tie.spec (λ c κs. search needs) (λ c κs. search needs) (λ c κs. search needs) (λ c κs. search needs) (λ c κs. search needs) (λ c κs. search needs) (λ c κs. search needs) (λ c κs. search needs) (λ c κs. search needs) (λ c κs. search needs) (λ c κs. search needs) (λ c κs. search needs) returns)

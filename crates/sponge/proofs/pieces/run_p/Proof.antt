@@ -1,0 +1,70 @@
+-- `run_p` meets its contract: P on the first b/8 bytes is P on the b bits. Assumes nothing.
+use mathlib.Core.List.{List, _++_}
+use mathlib.Core.Path.{_≡_, sym, ap, ap₂, _∙_}
+use Prim.Native.Nat.{ℕ, _+_, _≤_}
+use native.Mathlib.Numerals.{add-one}
+use native.Mathlib.Omega.{arith}
+use borrow.Author.Needs.{needs}
+use lib.ListN.{length, take, drop}
+use lib.Seq.{length-take-le}
+use Rattle.quark.specs.Sponge.{runP}
+use Rattle.quark.specs.Step.{P}
+use Rattle.quark.proofs.Instance.{regular}
+use Rattle.permutation.specs.Lines.{stateBytes}
+use Rattle.permutation.specs.Permute.{onBytes}
+use Rattle.sponge.specs.Soundness.{contentOf, stateWith}
+use Rattle.sponge.specs.leaf.Ready.{withSponge}
+use Rattle.sponge.proofs.StateBytes.{bytes-permuted}
+use Rattle.sponge.proofs.Contents.{permuted}
+use Rattle.sponge.proofs.pieces.run_p.Statement.{statement}
+use Rattle.sponge.proofs.pieces.run_p.Tie as tie
+
+-- b/8 bytes are at most the 32
+front : (c : tie.After-state-bytes) → c .state-bytes .result ≤ length (c .before .args .state .bits)
+unfolding stateBytes
+front c =
+    let s = c .before .args .state in
+    let n : length (s .bits) ≡ 32 = search needs in
+    omega (arith, c .state-bytes .ensures, regular (s .instance) .at-most-256)
+
+state-bytes-requires : tie.Need-state-bytes-requires
+state-bytes-requires c κs = search needs
+
+array-borrow-prefix-bits : tie.Need-array-borrow-prefix-bits
+array-borrow-prefix-bits c = front (c .before)
+
+slice-aggregate-permute : tie.Need-slice-aggregate-permute
+slice-aggregate-permute c = sym (length-take-le _ _ (front (c .before .before)))
+
+permute-requires : tie.Need-permute-requires
+permute-requires c κs = search needs
+
+add-t8 : tie.Need-add-t8
+add-t8 c = omega (arith, c .before .before .before .before .before .before .pre .1)
+
+returns : tie.Need-returns
+unfolding withSponge stateWith runP contentOf stateBytes
+returns c =
+    let start = c .before .before .before .before .before .before in
+    let s = start .args .state in
+    let ready = start .pre .0 in
+    let size = c .before .before .before .before .before .state-bytes in
+    let n : length (s .bits) ≡ 32 = search needs in
+    let m : length (take (size .result) (s .bits)) ≡ stateBytes (s .instance) =
+    length-take-le (size .result) (s .bits) (front (c .before .before .before .before .before)) ∙ size .ensures in
+    ap₂ (λ (r : ℕ) (l : List ℕ). record { instance = s .instance; phase = s .phase; total = s .total; runs = r; bits = l }) (add-one (s .runs))
+    (ap (λ (l : List ℕ). l ++ drop (size .result) (s .bits))
+    (c .before .before .permute .ensures .1 ∙ permuted (s .instance) (start .args .width) (take (size .result) (s .bits)) (ready .known) (ready .width) m)
+    ∙ ap (λ (k : ℕ). onBytes P (s .instance) (take k (s .bits)) ++ drop k (s .bits)) (size .ensures)
+    ∙ bytes-permuted (s .instance) (s .bits) n (ready .zero-past))
+
+pub run-p-spec : {M : Type 1} → statement M
+run-p-spec =
+    tie.close
+    (tie.spec
+    state-bytes-requires
+    array-borrow-prefix-bits
+    slice-aggregate-permute
+    permute-requires
+    add-t8
+    returns)

@@ -1,0 +1,13 @@
+-- `refuse` meets its contract. Assumes nothing.
+use mathlib.Core.Path.{refl}
+use Rattle.permutation.specs.Outcome.{outcomeOf}
+use Rattle.sponge.specs.Outcomes.{resultOf}
+use Rattle.sponge.proofs.replies.refuse.Statement.{statement}
+use Rattle.sponge.proofs.replies.refuse.Tie as tie
+
+returns : tie.Need-returns
+unfolding resultOf outcomeOf
+returns c = refl
+
+pub refuse-spec : {M : Type 1} → statement M
+refuse-spec = tie.close (tie.spec returns)

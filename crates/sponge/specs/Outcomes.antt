@@ -1,0 +1,102 @@
+-- What each operation answers, for every input (document 01, "Pieces and finish" and "Turned back, in checking order"). Where a call is
+-- refused, the state comes back as handed in, and so do the lent bytes. Assumes nothing.
+use mathlib.Core.Bool.{Bool, not, cond}
+use mathlib.Core.List.{List, [], _∷_}
+use Prim.Native.Nat.{ℕ, _+_, _*_, _-_, _/_, _%_}
+use lib.Dec.{ltb, eqb}
+use lib.ListN.{length}
+use Rattle.quark.specs.Bytes.{bitsOf, bytesOf}
+use Rattle.quark.specs.Instance.{Instance, instanceOf}
+use Rattle.quark.specs.Sponge.{digest}
+use Rattle.permutation.specs.Lines.{stateBytes, line1, line4, line5, firstLine}
+use Rattle.permutation.specs.Outcome.{Outcome, outcome, outcomeOf}
+use Rattle.sponge.specs.declared.State.{State}
+use Rattle.sponge.specs.declared.Reply.{Reply}
+use Rattle.sponge.specs.Taking.{Content, takeBits, given, finished}
+use Rattle.sponge.specs.Soundness.{limit, absorbingPhase, closedPhase, sound, contentOf, stateWith, fresh, allZeros}
+
+-- ---- the lines
+
+-- 2. A state is not sound, or its phase is not 0 or 1.
+unfoldable pub line2 : State → Bool
+line2 s = not (sound s)
+
+-- 3. A piece or finish comes to a closed state.
+unfoldable pub line3 : State → Bool
+line3 s = eqb (s .phase) closedPhase
+
+-- 6. A piece's count is over 8 times its bytes.
+unfoldable pub line6 : (bytes count : ℕ) → Bool
+line6 bytes count = ltb (8 * bytes) count
+
+-- 7. A total would pass 16,777,215.
+unfoldable pub line7 : (total count : ℕ) → Bool
+line7 total count = ltb limit (total + count)
+
+-- 8. A finish's padded length is no multiple of r.
+unfoldable pub line8 : (i total : ℕ) → Bool
+line8 i total = not (eqb ((total + 1 + (instanceOf i .r - 1 - total % instanceOf i .r)) % instanceOf i .r) 0)
+
+-- ---- a call's answer with the state that it hands back
+
+pub record Result : Type 0 where
+  pub outcome : Outcome (Unit {0})
+  pub state : State
+
+unfoldable pub resultOf : Reply → Result
+resultOf r = record { outcome = outcomeOf (r .answer); state = r .state }
+
+-- by the number that the lines give: refused, the state is `before`; accepted, it is `after`
+unfoldable pub resultBy : (number : ℕ) (before after : State) → Result
+resultBy number before after = record { outcome = outcome number tt; state = cond (eqb number 0) after before }
+
+-- ---- init
+
+unfoldable pub initNumber : ℕ → ℕ
+initNumber i = firstLine ((line1 i, 1) ∷ [])
+
+unfoldable pub initResult : ℕ → Result
+initResult i = resultBy (initNumber i) allZeros (fresh i)
+
+-- ---- absorb
+
+unfoldable pub absorbNumber : State → (w bytes count : ℕ) → ℕ
+absorbNumber s w bytes count =
+    firstLine
+    ((line1 (s .instance), 1) ∷ (line2 s, 2) ∷ (line3 s, 3) ∷ (line4 (s .instance) w, 4) ∷ (line6 bytes count, 6) ∷ (line7 (s .total) count, 7)
+    ∷ [])
+
+unfoldable pub absorbResult : State → (w : ℕ) (bytes : List ℕ) (count : ℕ) → Result
+absorbResult s w bytes count =
+    resultBy (absorbNumber s w (length bytes) count) s
+    (stateWith (s .instance) absorbingPhase (takeBits (instanceOf (s .instance)) (contentOf s) (bitsOf count bytes)))
+
+-- ---- finish
+
+unfoldable pub finishNumber : State → (w buffer : ℕ) → ℕ
+finishNumber s w buffer =
+    firstLine
+    ((line1 (s .instance), 1) ∷ (line2 s, 2) ∷ (line3 s, 3) ∷ (line4 (s .instance) w, 4) ∷ (line5 (s .instance) buffer, 5)
+    ∷ (line8 (s .instance) (s .total), 8) ∷ [])
+
+unfoldable pub finishResult : State → (w buffer : ℕ) → Result
+finishResult s w buffer = resultBy (finishNumber s w buffer) s (stateWith (s .instance) closedPhase (finished (instanceOf (s .instance)) (contentOf s)))
+
+-- the buffer after finish: the digest, n bits
+unfoldable pub finishBytes : State → (w : ℕ) → List ℕ → List ℕ
+finishBytes s w buffer =
+    cond (eqb (finishNumber s w (length buffer)) 0) (bytesOf (stateBytes (s .instance)) (given (instanceOf (s .instance)) (contentOf s))) buffer
+
+-- ---- digest
+
+unfoldable pub digestNumber : (i w bytes count buffer : ℕ) → ℕ
+digestNumber i w bytes count buffer =
+    firstLine ((line1 i, 1) ∷ (line4 i w, 4) ∷ (line5 i buffer, 5) ∷ (line6 bytes count, 6) ∷ (line7 0 count, 7) ∷ (line8 i count, 8) ∷ [])
+
+unfoldable pub digestOutcome : (i w : ℕ) (bytes : List ℕ) (count : ℕ) (buffer : List ℕ) → Outcome (Unit {0})
+digestOutcome i w bytes count buffer = outcome (digestNumber i w (length bytes) count (length buffer)) tt
+
+-- the buffer after digest: the paper's digest of the message
+unfoldable pub digestBytes : (i w : ℕ) (bytes : List ℕ) (count : ℕ) (buffer : List ℕ) → List ℕ
+digestBytes i w bytes count buffer =
+    cond (eqb (digestNumber i w (length bytes) count (length buffer)) 0) (bytesOf (stateBytes i) (digest (instanceOf i) (bitsOf count bytes))) buffer

@@ -1,0 +1,58 @@
+-- Sound states and fresh states (document 01, "Pieces and finish"). Assumes nothing.
+use mathlib.Core.Bool.{Bool, true, false, _&&_, _||_, cond}
+use mathlib.Core.List.{List, [], _∷_}
+use Prim.Native.Nat.{ℕ, _+_, _/_}
+use lib.Dec.{leb, eqb}
+use lib.ListN.{drop, replicate}
+use Rattle.quark.specs.Bytes.{bitsOf, bytesOf}
+use Rattle.quark.specs.Instance.{Instance, instanceOf}
+use Rattle.sponge.specs.declared.State.{State}
+use Rattle.sponge.specs.Taking.{Content}
+
+-- the greatest total of bits
+abbrev pub limit : ℕ
+limit = 16777215
+
+-- document 01's phases
+abbrev pub absorbingPhase : ℕ
+absorbingPhase = 0
+
+abbrev pub closedPhase : ℕ
+closedPhase = 1
+
+unfoldable pub allZero : List ℕ → Bool
+allZero [] = true
+allZero (x ∷ xs) = eqb x 0 && allZero xs
+
+-- the runs of a sound state: total div r, and n/r more where it is closed
+unfoldable pub soundRuns : Instance → (phase total : ℕ) → ℕ
+soundRuns I phase total = cond (eqb phase absorbingPhase) (total / I .r) (total / I .r + I .n / I .r)
+
+-- the total is at most the limit, bytes from b/8 on are zero, and the runs are those of the total; the phase is 0 or 1
+unfoldable pub sound : State → Bool
+sound s =
+    leb (s .total) limit && allZero (drop (instanceOf (s .instance) .b / 8) (s .bits))
+    && eqb (s .runs) (soundRuns (instanceOf (s .instance)) (s .phase) (s .total))
+    && (eqb (s .phase) absorbingPhase || eqb (s .phase) closedPhase)
+
+-- what a state holds
+unfoldable pub contentOf : State → Content
+contentOf s = record { total = s .total; sponge = record { bits = bitsOf (instanceOf (s .instance) .b) (s .bits); runs = s .runs } }
+
+-- the state of an instance that holds so much: 32 bytes, zero from b/8 on
+unfoldable pub stateWith : (i phase : ℕ) → Content → State
+stateWith i phase h = record {
+  instance = i;
+  phase = phase;
+  total = h .total;
+  runs = h .sponge .runs;
+  bits = bytesOf 32 (h .sponge .bits);
+}
+
+-- document 01's fresh state: total and runs 0, and the initial bits
+unfoldable pub fresh : ℕ → State
+fresh i = stateWith i absorbingPhase (record { total = 0; sponge = record { bits = instanceOf i .initial; runs = 0 } })
+
+-- what comes back where the instance is refused
+unfoldable pub allZeros : State
+allZeros = record { instance = 0; phase = 0; total = 0; runs = 0; bits = replicate 32 0 }

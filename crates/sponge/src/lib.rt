@@ -1,0 +1,90 @@
+// Hashing by pieces of bits (document 01, "Pieces and finish"; QUARK 3.1): a fresh state, pieces, finish, and the whole digest.
+// A state is passed by value and comes back beside the answer. All tests of a call precede all of its work.
+ghost use mathlib.Core.Path.{_≡_};
+ghost use lib.ListN.{length};
+ghost use Rattle.permutation.specs.Outcome.{outcomeOf};
+ghost use Rattle.sponge.specs.Outcomes.{resultOf, initResult, absorbResult, finishResult, finishBytes, digestOutcome, digestBytes};
+use permutation::Answer;
+use permutation::Refusal;
+use permutation::lines::UNKNOWN_INSTANCE;
+use permutation::lines::is_instance;
+
+mod fresh;
+mod lines;
+mod pieces;
+mod place;
+mod replies;
+mod sound;
+mod squeeze;
+
+// A state of the sponge (document 01, "Pieces and finish"). Its fields are public: a forged state is an input like any other.
+pub struct State {
+    // 1 is U, 2 is D, 3 is S
+    pub instance: u32,
+    // 0 absorbing, 1 closed
+    pub phase: u32,
+    // the bits taken
+    pub total: u32,
+    // how often P has run
+    pub runs: u32,
+    // the state's bits in byte form, zero from b/8 bytes on
+    pub bits: [u8; 32],
+}
+
+// A call's answer, and the state that it hands back.
+pub struct Reply {
+    pub answer: Answer,
+    pub state: State,
+}
+
+// Document 01's fresh state: total and runs 0, and the initial bits of the instance.
+// Refuses by line 1; the state is then all zeros.
+pub fn init(instance: u32) -> Reply
+    ensures { λ r. ⌜ resultOf r ≡ initResult instance ⌝ }
+{
+    if is_instance(instance) {
+        return replies::accept(fresh::fresh(instance));
+    }
+    replies::refuse(UNKNOWN_INSTANCE, fresh::zeros(0))
+}
+
+// Document 01's piece: takes the first `count` bits of the bytes into an absorbing state, `width` steps of P together.
+// Refuses by lines 1, 2, 3, 4, 6 and 7, in this order; the state then comes back as handed in.
+pub fn absorb(state: State, width: u32, bytes: &[u8], count: usize) -> Reply
+    ensures { λ r. ⌜ resultOf r ≡ absorbResult state width (now (bytes .entry)) count ⌝ }
+{
+    let number = lines::absorb_line(state, width, bytes.len(), count);
+    if number != 0 {
+        return replies::refuse(number, state);
+    }
+    replies::accept(pieces::take_bits(state, width, bytes, count))
+}
+
+// Document 01's finish: pads, writes the digest into the buffer and closes the state.
+// Refuses by lines 1, 2, 3, 4, 5 and 8, in this order; the state then comes back as handed in, and the buffer is untouched.
+pub fn finish(state: State, width: u32, buffer: &mut [u8]) -> Reply
+    ensures reply { λ r. ⌜ resultOf r ≡ finishResult state width (length (now (buffer .entry))) ⌝ }
+    ensures bytes { λ _. ⌜ now (buffer .exit) ≡ finishBytes state width (now (buffer .entry)) ⌝ }
+{
+    let number = lines::finish_line(state, width, buffer.len());
+    if number != 0 {
+        return replies::refuse(number, state);
+    }
+    replies::accept(squeeze::close(state, width, buffer))
+}
+
+// Document 01's whole digest: writes the digest of the first `count` bits of the message into the buffer. It is `init`, one `absorb` and
+// `finish`, with an order of tests of its own.
+// Refuses by lines 1, 4, 5, 6, 7 and 8, in this order; the buffer is then untouched.
+pub fn digest(instance: u32, width: u32, message: &[u8], count: usize, buffer: &mut [u8]) -> Answer
+    ensures answer { λ r. ⌜ outcomeOf r ≡ digestOutcome instance width (now (message .entry)) count (now (buffer .entry)) ⌝ }
+    ensures bytes { λ _. ⌜ now (buffer .exit) ≡ digestBytes instance width (now (message .entry)) count (now (buffer .entry)) ⌝ }
+{
+    let number = lines::digest_line(instance, width, message.len(), count, buffer.len());
+    if number != 0 {
+        return Answer::Refused(Refusal { number, place: 0 });
+    }
+    let state = pieces::take_bits(fresh::fresh(instance), width, message, count);
+    squeeze::close(state, width, buffer);
+    Answer::Accepted
+}

@@ -1,0 +1,101 @@
+// The lines of document 01, "Turned back, in checking order", that read a state, a count or a total, and the order of the lines in each
+// operation. Lines 1, 4 and 5 are the permutation's.
+ghost use mathlib.Core.Path.{_≡_};
+ghost use Rattle.sponge.specs.Outcomes.{line6, line7, line8, absorbNumber, finishNumber, digestNumber};
+use crate::State;
+use crate::place;
+use crate::sound::LIMIT;
+use crate::sound::is_closed;
+use crate::sound::is_sound;
+use permutation::lines::UNKNOWN_INSTANCE;
+use permutation::lines::UNKNOWN_WIDTH;
+use permutation::lines::WRONG_LENGTH;
+use permutation::lines::first;
+use permutation::lines::is_instance;
+use permutation::lines::is_width;
+use permutation::lines::state_bytes;
+
+// 2. A state is not sound, or its phase is not 0 or 1.
+const UNSOUND_STATE: u32 = 2;
+
+// 3. A piece or finish comes to a closed state.
+const CLOSED_STATE: u32 = 3;
+
+// 6. A piece's count is over 8 times its bytes.
+const COUNT_OVER_BYTES: u32 = 6;
+
+// 7. A total would pass 16,777,215.
+const TOTAL_OVER_LIMIT: u32 = 7;
+
+// 8. A finish's padded length is no multiple of r.
+const PADDED_LENGTH: u32 = 8;
+
+// Line 6. 8 times the bytes is worked out only where it does not pass the count, so it cannot wrap.
+fn count_over(bytes: usize, count: usize) -> bool
+    ensures { λ r. ⌜ r ≡ line6 bytes count ⌝ }
+{
+    if count / 8 < bytes {
+        return false;
+    }
+    8 * bytes < count
+}
+
+// Line 7. A count over the limit is tested first, so the sum cannot wrap.
+fn total_over(total: u32, count: usize) -> bool
+    ensures { λ r. ⌜ r ≡ line7 total count ⌝ }
+{
+    let limit = LIMIT as usize;
+    if count > limit {
+        return true;
+    }
+    total as usize + count > limit
+}
+
+// Line 8, from the padded length total + 1 + (r - 1 - total mod r) modulo r. The total goes in by its remainder, so the sum cannot wrap.
+fn padding_off(instance: u32, total: usize) -> bool
+    ensures { λ r. ⌜ r ≡ line8 instance total ⌝ }
+{
+    let r = place::rate(instance);
+    let taken = total % r;
+    (taken + 1 + (r - 1 - taken)) % r != 0
+}
+
+// The first of lines 1, 2, 3, 4, 6 and 7 that holds for a piece; 0 where none does.
+pub fn absorb_line(state: State, width: u32, bytes: usize, count: usize) -> u32
+    ensures { λ r. ⌜ r ≡ absorbNumber state width bytes count ⌝ }
+{
+    let number = first(total_over(state.total, count), TOTAL_OVER_LIMIT, 0);
+    let number = first(count_over(bytes, count), COUNT_OVER_BYTES, number);
+    let number = first(!is_width(state.instance, width), UNKNOWN_WIDTH, number);
+    let number = first(is_closed(state), CLOSED_STATE, number);
+    let number = first(!is_sound(state), UNSOUND_STATE, number);
+    first(!is_instance(state.instance), UNKNOWN_INSTANCE, number)
+}
+
+// The first of lines 1, 2, 3, 4, 5 and 8 that holds for a finish; 0 where none does.
+pub fn finish_line(state: State, width: u32, buffer: usize) -> u32
+    ensures { λ r. ⌜ r ≡ finishNumber state width buffer ⌝ }
+{
+    let number = first(
+        padding_off(state.instance, state.total as usize),
+        PADDED_LENGTH,
+        0,
+    );
+    let number = first(buffer != state_bytes(state.instance), WRONG_LENGTH, number);
+    let number = first(!is_width(state.instance, width), UNKNOWN_WIDTH, number);
+    let number = first(is_closed(state), CLOSED_STATE, number);
+    let number = first(!is_sound(state), UNSOUND_STATE, number);
+    first(!is_instance(state.instance), UNKNOWN_INSTANCE, number)
+}
+
+// The first of lines 1, 4, 5, 6, 7 and 8 that holds for a whole digest; 0 where none does.
+pub fn digest_line(instance: u32, width: u32, bytes: usize, count: usize, buffer: usize) -> u32
+    ensures { λ r. ⌜ r ≡ digestNumber instance width bytes count buffer ⌝ }
+{
+    let number = first(padding_off(instance, count), PADDED_LENGTH, 0);
+    let number = first(total_over(0, count), TOTAL_OVER_LIMIT, number);
+    let number = first(count_over(bytes, count), COUNT_OVER_BYTES, number);
+    let number = first(buffer != state_bytes(instance), WRONG_LENGTH, number);
+    let number = first(!is_width(instance, width), UNKNOWN_WIDTH, number);
+    first(!is_instance(instance), UNKNOWN_INSTANCE, number)
+}

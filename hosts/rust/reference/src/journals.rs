@@ -1,0 +1,43 @@
+//! Test journals: bodies that follow, sealed in turn, and damage to them.
+use crate::journal::{seal_of, Body, BODY, RECORD, SEAL};
+use crate::random::Random;
+
+/// Bodies that keep the layout, each of which follows the one before.
+pub fn bodies(random: &mut Random, records: usize) -> Vec<Body> {
+    let station = random.word() as u32;
+    let mut time = random.word() as u32 % 1_000_000_000;
+    (1..=records as u32)
+        .map(|sequence| {
+            // equal times follow too
+            time += random.word() as u32 % 4 * 1_000;
+            let kind = 1 + random.word() as u8 % 4;
+            Body {
+                station,
+                sequence,
+                time,
+                kind,
+                position: 1 + random.word() as u8 % 6,
+                current: random.word() as u16,
+                milliseconds: if kind == 3 { random.word() as u16 } else { 0 },
+                spare: [0; 5],
+            }
+        })
+        .collect()
+}
+
+/// The journal of bodies, sealed in turn, whatever they hold.
+pub fn sealed(key: &[u8], bodies: &[Body]) -> Vec<u8> {
+    let mut journal: Vec<u8> = bodies.iter().flat_map(|body| [&body.bytes()[..], &[0; SEAL]].concat()).collect();
+    reseal(key, &mut journal, 0);
+    journal
+}
+
+/// Seals the records from an index on again, each with the seal that now stands before it.
+pub fn reseal(key: &[u8], journal: &mut [u8], from: usize) {
+    for record in from..journal.len() / RECORD {
+        let at = RECORD * record;
+        let previous = if record == 0 { vec![0; SEAL] } else { journal[at - SEAL..at].to_vec() };
+        let (seal, _) = seal_of(key, &previous, &journal[at..at + BODY]);
+        journal[at + BODY..at + RECORD].copy_from_slice(&seal);
+    }
+}

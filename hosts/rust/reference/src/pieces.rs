@@ -1,0 +1,122 @@
+//! States, pieces and finish, from document 01 ("Pieces and finish", "Turned back, in checking order"). A call answers the number of
+//! the first line that holds, 0 where it is accepted, and the state that it hands back.
+use crate::digest::{initial, rate_bytes};
+use crate::{permute, state_bytes};
+
+/// The greatest total of bits.
+pub const LIMIT: u32 = 16_777_215;
+
+#[derive(Clone, Copy, Debug, PartialEq, Eq)]
+pub struct State {
+    pub instance: u32,
+    pub phase: u32,
+    pub total: u32,
+    pub runs: u32,
+    pub bits: [u8; 32],
+}
+
+fn is_instance(instance: u32) -> bool {
+    (1..=3).contains(&instance)
+}
+
+/// Line 4.
+pub fn is_width(instance: u32, width: u32) -> bool {
+    width == 1 || width == 8 || width == 16 && instance == 3
+}
+
+/// r of an instance.
+fn rate(instance: u32) -> u32 {
+    8 * rate_bytes(instance) as u32
+}
+
+impl State {
+    /// Line 2 does not hold.
+    fn is_sound(&self) -> bool {
+        let bytes = state_bytes(self.instance);
+        let outputs = 8 * bytes as u32 / rate(self.instance);
+        let runs = self.total / rate(self.instance);
+        self.total <= LIMIT
+            && self.bits[bytes..].iter().all(|&byte| byte == 0)
+            && match self.phase {
+                0 => self.runs == runs,
+                1 => self.runs == runs + outputs,
+                _ => false,
+            }
+    }
+
+    /// Adds a bit at the place of the next one.
+    fn add(&mut self, bit: u8) {
+        let b = 8 * state_bytes(self.instance) as u32;
+        let place = (b - rate(self.instance) + self.total % rate(self.instance)) as usize;
+        self.bits[place / 8] ^= bit << (7 - place % 8);
+    }
+
+    fn run(&mut self) {
+        permute(self.instance, &mut self.bits[..state_bytes(self.instance)]);
+        self.runs += 1;
+    }
+}
+
+/// A fresh state; all zeros where the instance is refused.
+pub fn init(instance: u32) -> (u32, State) {
+    let mut state = State { instance: 0, phase: 0, total: 0, runs: 0, bits: [0; 32] };
+    if !is_instance(instance) {
+        return (1, state);
+    }
+    state.instance = instance;
+    state.bits[..state_bytes(instance)].copy_from_slice(&initial(instance));
+    (0, state)
+}
+
+/// The first of lines 1 to 4 that holds, for a piece or a finish.
+fn first_lines(state: State, width: u32) -> u32 {
+    match state {
+        _ if !is_instance(state.instance) => 1,
+        _ if !state.is_sound() => 2,
+        _ if state.phase == 1 => 3,
+        _ if !is_width(state.instance, width) => 4,
+        _ => 0,
+    }
+}
+
+/// A piece: the first `count` bits of `bytes`.
+pub fn absorb(state: State, width: u32, bytes: &[u8], count: u64) -> (u32, State) {
+    let number = match first_lines(state, width) {
+        0 if count > 8 * bytes.len() as u64 => 6,
+        0 if u64::from(state.total) + count > u64::from(LIMIT) => 7,
+        number => number,
+    };
+    if number != 0 {
+        return (number, state);
+    }
+    let mut state = state;
+    for i in 0..count as usize {
+        state.add(bytes[i / 8] >> (7 - i % 8) & 1);
+        state.total += 1;
+        if state.total % rate(state.instance) == 0 {
+            state.run();
+        }
+    }
+    (0, state)
+}
+
+/// Finish: the digest is written to `buffer`. Line 8 never holds.
+pub fn finish(state: State, width: u32, buffer: &mut [u8]) -> (u32, State) {
+    let number = match first_lines(state, width) {
+        0 if buffer.len() != state_bytes(state.instance) => 5,
+        number => number,
+    };
+    if number != 0 {
+        return (number, state);
+    }
+    let mut state = state;
+    let bytes = rate_bytes(state.instance);
+    state.add(1);
+    for part in buffer.chunks_mut(bytes) {
+        state.run();
+        let end = state_bytes(state.instance);
+        part.copy_from_slice(&state.bits[end - bytes..end]);
+    }
+    state.phase = 1;
+    (0, state)
+}

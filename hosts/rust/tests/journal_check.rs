@@ -1,0 +1,223 @@
+//! The check program, target/bin/journal_check, run on inputs that the independent implementation makes: key, then journal. What it prints
+//! is compared with the line that is written here and with the independent implementation's.
+use reference::journal::{report, Body, BODY, LONGEST, RECORD};
+use reference::journals::{bodies, reseal, sealed};
+use reference::random::Random;
+use std::fs::File;
+use std::io::{ErrorKind, Read, Write};
+use std::os::fd::OwnedFd;
+use std::os::unix::net::UnixStream;
+use std::path::PathBuf;
+use std::process::{Command, Stdio};
+
+fn program() -> PathBuf {
+    let path = PathBuf::from(concat!(env!("CARGO_MANIFEST_DIR"), "/../../target/bin/journal_check"));
+    assert!(path.is_file(), "{} is missing: run `rt check journal_check` in the repository's root first", path.display());
+    path
+}
+
+/// What the program prints where its standard input is this; its exit status is 0, and it writes no error.
+fn printed_from(input: Stdio) -> String {
+    let done = Command::new(program()).stdin(input).output().unwrap();
+    assert!(done.status.success() && done.stderr.is_empty());
+    String::from_utf8(done.stdout).unwrap()
+}
+
+/// What the program prints for an input that comes through a pipe, so many bytes at a time.
+fn printed(input: &[u8], at_a_time: usize) -> String {
+    let mut child = Command::new(program()).stdin(Stdio::piped()).stdout(Stdio::piped()).spawn().unwrap();
+    let mut pipe = child.stdin.take().unwrap();
+    for part in input.chunks(at_a_time) {
+        // the program may stop reading once it has seen enough
+        match pipe.write_all(part) {
+            Err(error) if error.kind() == ErrorKind::BrokenPipe => break,
+            written => written.unwrap(),
+        }
+    }
+    drop(pipe);
+    let mut text = String::new();
+    child.stdout.take().unwrap().read_to_string(&mut text).unwrap();
+    assert!(child.wait().unwrap().success());
+    text
+}
+
+/// The line for an input.
+fn check(input: &[u8], line: &str) {
+    assert_eq!(report(input), format!("{line}\n"), "the independent implementation");
+    assert_eq!(printed(input, usize::MAX), format!("{line}\n"), "{} bytes", input.len());
+}
+
+/// Key, then the journal of bodies, sealed in turn.
+fn input(key: &[u8], bodies: &[Body]) -> Vec<u8> {
+    [key, &sealed(key, bodies)].concat()
+}
+
+const KEY: &[u8; 16] = b"a key of 16 byte";
+
+/// An input of some records.
+fn lawful(seed: u64, records: usize) -> Vec<u8> {
+    input(KEY, &bodies(&mut Random::new(seed), records))
+}
+
+/// Document 01's three lines, and the edges around them.
+#[test]
+fn sample_lines() {
+    check(&[1; 16], "accepted 0 0");
+    check(&[1; 17], "refused 9 0");
+    check(&[1; 15], "refused 5 0");
+    check(&[], "refused 5 0");
+    check(&[1; 1], "refused 5 0");
+    check(&[0; 16], "accepted 0 0");
+    check(&[1; 16 + 39], "refused 9 0");
+    check(&[1; 16 + 40], "refused 10 0");
+}
+
+#[test]
+fn the_sample_journal() {
+    let path = concat!(env!("CARGO_MANIFEST_DIR"), "/../../samples/journal.bin");
+    assert_eq!(printed_from(File::open(path).unwrap().into()), "accepted 5 365\n");
+}
+
+#[test]
+fn accepted_journals() {
+    for records in [1, 2, 3, 10, 64] {
+        check(&lawful(records as u64, records), &format!("accepted {records} {}", 73 * records));
+    }
+}
+
+#[test]
+fn the_longest_journal() {
+    let mut longest = lawful(40, 1_600);
+    assert_eq!(longest.len(), 16 + LONGEST);
+    check(&longest, "accepted 1600 116800");
+    longest.push(0);
+    check(&longest, "refused 9 0");
+    longest.resize(16 + LONGEST + RECORD, 0);
+    check(&longest, "refused 9 0");
+    longest.resize(1_000_000, 0);
+    check(&longest, "refused 9 0");
+    check(&vec![0; 16 + LONGEST], "refused 10 0");
+}
+
+#[test]
+fn torn_journals() {
+    let whole = lawful(41, 3);
+    for length in 16..=whole.len() {
+        let records = (length - 16) / RECORD;
+        let line = if (length - 16) % RECORD == 0 { format!("accepted {records} {}", 73 * records) } else { "refused 9 0".into() };
+        check(&whole[..length], &line);
+    }
+}
+
+/// One fault: lines 10, 11 and 12, each at place 0 and at others.
+#[test]
+fn one_fault() {
+    let whole = lawful(42, 4);
+    for place in 0..4 {
+        let at = 16 + RECORD * place;
+        for (number, offset) in [(10, 12), (10, 13), (10, 22), (11, 4), (12, BODY), (12, RECORD - 1), (12, 14)] {
+            let mut damaged = whole.clone();
+            damaged[at + offset] ^= 0x80;
+            check(&damaged, &format!("refused {number} {place}"));
+        }
+    }
+    // a time that falls, and another station, sealed in turn
+    let mut changed = bodies(&mut Random::new(43), 4);
+    changed[2].time = changed[1].time - 1;
+    check(&input(KEY, &changed), "refused 11 2");
+    let mut changed = bodies(&mut Random::new(43), 4);
+    changed[3].station += 1;
+    check(&input(KEY, &changed), "refused 11 3");
+    // another key
+    check(&[&[0; 16], &whole[16..]].concat(), "refused 12 0");
+}
+
+/// Two faults: the earlier record's, then the lower line, wins.
+#[test]
+fn two_faults() {
+    let whole = lawful(44, 4);
+    let damaged = |faults: &[(usize, usize)]| {
+        let mut damaged = whole.clone();
+        faults.iter().for_each(|(place, offset)| damaged[16 + RECORD * place + offset] ^= 0x80);
+        damaged
+    };
+    check(&damaged(&[(1, BODY), (2, 12)]), "refused 12 1");
+    check(&damaged(&[(2, BODY), (1, 12)]), "refused 10 1");
+    check(&damaged(&[(1, BODY), (1, 12)]), "refused 10 1");
+    check(&damaged(&[(1, BODY), (1, 4)]), "refused 11 1");
+    check(&damaged(&[(3, 4), (3, 12)]), "refused 10 3");
+    check(&damaged(&[(0, 4), (3, 12)]), "refused 11 0");
+    // a fault in a torn journal
+    check(&damaged(&[(0, 12)])[..16 + 3 * RECORD + 1], "refused 9 0");
+}
+
+/// A damaged record that is sealed again with all behind it: what is left is the layout and the succession.
+#[test]
+fn resealed() {
+    let whole = lawful(45, 4);
+    for (offset, line) in [(8, "refused 11 2"), (12, "refused 10 1"), (4, "refused 11 1"), (14, "accepted 4 292")] {
+        let mut journal = whole[16..].to_vec();
+        journal[RECORD + offset] ^= 0x80;
+        reseal(KEY, &mut journal, 1);
+        check(&[&KEY[..], &journal].concat(), line);
+    }
+}
+
+/// Station, time and current 0 and all ones; kind 3 with 0 and 65,535 ms.
+#[test]
+fn extreme_fields() {
+    for any in [0, u32::MAX] {
+        for milliseconds in [0, u16::MAX] {
+            let body = |sequence, position| Body {
+                station: any,
+                sequence,
+                time: any,
+                kind: 3,
+                position,
+                current: any as u16,
+                milliseconds,
+                spare: [0; 5],
+            };
+            check(&input(KEY, &[body(1, 1), body(2, 6)]), "accepted 2 146");
+        }
+    }
+}
+
+/// An input that comes in small parts is read to its end.
+#[test]
+fn a_slow_pipe() {
+    let whole = lawful(46, 5);
+    for at_a_time in [1, 7, 16, 39] {
+        assert_eq!(printed(&whole, at_a_time), "accepted 5 365\n");
+        assert_eq!(printed(&whole[..whole.len() - 1], at_a_time), "refused 9 0\n");
+    }
+}
+
+#[test]
+fn endless_input() {
+    assert_eq!(printed_from(File::open("/dev/zero").unwrap().into()), "refused 9 0\n");
+}
+
+/// What the program prints where a read fails after so much input: a socket that does not wait has nothing more to read yet.
+fn printed_after_failure(input: &[u8]) -> String {
+    let (mut ours, theirs) = UnixStream::pair().unwrap();
+    theirs.set_nonblocking(true).unwrap();
+    ours.write_all(input).unwrap();
+    let text = printed_from(OwnedFd::from(theirs).into());
+    drop(ours);
+    text
+}
+
+/// A read that fails is not the end of an input: nothing is accepted.
+#[test]
+fn a_failed_read() {
+    // a folder can be opened, and not read
+    assert_eq!(printed_from(File::open("/").unwrap().into()), "refused 5 0\n");
+    let whole = lawful(47, 5);
+    for length in [0, 1, 15] {
+        assert_eq!(printed_after_failure(&whole[..length]), "refused 5 0\n");
+    }
+    for length in [16, 17, 16 + RECORD, whole.len()] {
+        assert_eq!(printed_after_failure(&whole[..length]), "refused 9 0\n");
+    }
+}

@@ -1,0 +1,128 @@
+//! Sealing agrees with the independent implementation; refused by 5 or 10, in this order, the record buffer is as it was.
+use reference::journal::{self as expected, Body};
+use reference::journals::bodies;
+use reference::random::Random;
+use wilbroged::seal;
+
+/// Compares both, from a buffer that holds something.
+fn compare(key: &[u8], previous: &[u8], body: &[u8], length: usize) -> Result<(), u32> {
+    let before: Vec<u8> = (0..length).map(|i| (37 * i + 11) as u8).collect();
+    let (mut record, mut record_expected) = (before.clone(), before.clone());
+    let answer = seal(key, previous, body, &mut record);
+    let answer_expected = expected::seal(key, previous, body, &mut record_expected);
+    assert_eq!(answer, answer_expected.map(|runs| assert_eq!(runs, 73)));
+    assert_eq!(record, record_expected, "key {key:02X?}, previous {previous:02X?}, body {body:02X?}");
+    if answer.is_err() {
+        assert_eq!(record, before);
+    }
+    answer
+}
+
+#[test]
+fn bodies_that_keep_the_layout() {
+    let mut random = Random::new(20);
+    for body in bodies(&mut random, 200) {
+        let (key, previous) = (random.bytes(16), random.bytes(17));
+        assert_eq!(compare(&key, &previous, &body.bytes(), 40), Ok(()));
+    }
+}
+
+/// Station, sequence, time and current may be any value, and so may the milliseconds of kind 3.
+#[test]
+fn extreme_fields() {
+    for any in [0, u32::MAX] {
+        for kind in 1..=4 {
+            for position in 1..=6 {
+                for milliseconds in if kind == 3 { vec![0, 1, 256, u16::MAX] } else { vec![0] } {
+                    let body = Body {
+                        station: any,
+                        sequence: any,
+                        time: any,
+                        kind,
+                        position,
+                        current: any as u16,
+                        milliseconds,
+                        spare: [0; 5],
+                    };
+                    assert_eq!(compare(&[0xFF; 16], &[0; 17], &body.bytes(), 40), Ok(()));
+                }
+            }
+        }
+    }
+}
+
+#[test]
+fn lengths() {
+    let body = bodies(&mut Random::new(21), 1)[0].bytes();
+    let (key, previous, body) = ([1; 33], [2; 33], [&body[..], &[0; 23]].concat());
+    for (key_length, previous_length, body_length, length) in [
+        (0, 17, 23, 40),
+        (15, 17, 23, 40),
+        (17, 17, 23, 40),
+        (32, 17, 23, 40),
+        (16, 0, 23, 40),
+        (16, 16, 23, 40),
+        (16, 18, 23, 40),
+        (16, 17, 0, 40),
+        (16, 17, 22, 40),
+        (16, 17, 24, 40),
+        (16, 17, 40, 40),
+        (16, 17, 23, 0),
+        (16, 17, 23, 23),
+        (16, 17, 23, 39),
+        (16, 17, 23, 41),
+        (16, 17, 23, 296),
+        (17, 16, 23, 40),
+        (0, 0, 0, 0),
+    ] {
+        let answer = compare(&key[..key_length], &previous[..previous_length], &body[..body_length], length);
+        assert_eq!(answer, Err(5), "{key_length}, {previous_length}, {body_length}, {length}");
+    }
+    assert_eq!(compare(&key[..16], &previous[..17], &body[..23], 40), Ok(()));
+}
+
+/// Every byte of the layout at every value: kind, position, the milliseconds' two bytes under each kind, and the five spare bytes.
+#[test]
+fn layouts() {
+    let whole = Body { station: 7, sequence: 0, time: 9, kind: 1, position: 1, current: 300, milliseconds: 0, spare: [0; 5] };
+    for kind in 1..=4 {
+        let start = Body { kind, ..whole }.bytes();
+        for at in 12..23 {
+            for byte in 0..=255 {
+                let mut body = start;
+                body[at] = byte;
+                let free = at == 14 || at == 15 || kind == 3 && (at == 16 || at == 17);
+                let lawful = match at {
+                    12 => (1..=4).contains(&byte),
+                    13 => (1..=6).contains(&byte),
+                    _ => free || byte == 0,
+                };
+                // a body that breaks the layout is cheap to refuse; of the others every eighth is sealed
+                if !lawful || byte % 8 == 1 {
+                    assert_eq!(compare(&[3; 16], &[4; 17], &body, 40).is_ok(), lawful, "kind {kind}, byte {at} is {byte}");
+                }
+            }
+        }
+    }
+}
+
+/// A milliseconds field that is not 0 goes with kind 3 alone, whatever the kind was before.
+#[test]
+fn kind_and_milliseconds() {
+    for kind in 0..=255 {
+        for milliseconds in [0, 1, 255, 256, u16::MAX] {
+            let body = Body { station: 1, sequence: 1, time: 1, kind, position: 6, current: 0, milliseconds, spare: [0; 5] };
+            let lawful = kind == 3 || (1..=4).contains(&kind) && milliseconds == 0;
+            assert_eq!(compare(&[3; 16], &[4; 17], &body.bytes(), 40), if lawful { Ok(()) } else { Err(10) });
+        }
+    }
+}
+
+/// 5 comes before 10.
+#[test]
+fn the_first_line_that_holds() {
+    assert_eq!(compare(&[0; 15], &[0; 17], &[0; 23], 40), Err(5));
+    assert_eq!(compare(&[0; 16], &[0; 17], &[0; 22], 40), Err(5));
+    assert_eq!(compare(&[0; 16], &[0; 17], &[0; 23], 39), Err(5));
+    assert_eq!(compare(&[0; 16], &[0; 17], &[0; 23], 40), Err(10));
+}
