@@ -116,6 +116,7 @@ fn products_at(r: Register, taps: [u32; 10]) -> u64 {
 /// h's products, of Y3, X25, X46, X55 and Y59 in U.
 #[inline(always)]
 #[rustfmt::skip]
+#[allow(clippy::too_many_arguments)]
 fn mixed_at(x: Register, y: Register, l: u64, y_low: u32, x_low: u32, x_mid: u32, x_high: u32, y_high: u32) -> u64 {
     let (y3, x25, x46, x55, y59) = (window(y, y_low), window(x, x_low), window(x, x_mid), window(x, x_high), window(y, y_high));
     l ^ (y3 & x55) ^ (x46 & x55) ^ (x55 & y59) ^ (y3 & x25 & x46) ^ (y3 & x46 & x55) ^ (y3 & x46 & y59) ^ (l & x25 & x46 & y59) ^ (l & x25)
@@ -276,8 +277,6 @@ pub fn permute(instance: u32, width: u32, state: &mut [u8]) {
     run(&mut bits, instance, width, 1023, 8 * half_of(instance) as u32);
     store_bytes(&bits, state);
 }
-
-pub fn invert(_i: u32, _w: u32, _s: &mut [u8]) {}
 
 #[cfg(test)]
 mod tests {
