@@ -61,9 +61,6 @@ module _ (i w : ℕ) (bytes : List ℕ) (count : ℕ) (buffer : List ℕ) (none 
   p : DigestPassed i w (length bytes) count (length buffer)
   p = digest-passed i w (length bytes) count (length buffer) none
 
-  m : List ℕ
-  m = bitsOf count bytes
-
   size : length (bitsOf count bytes) ≡ count
   size = wide-bitsOf count bytes .0
 
