@@ -55,8 +55,9 @@ impl Width {
             true => Timed::new(move |state| wilbroged::invert(instance, width, state).unwrap()),
         };
         let word = match (width, back) {
-            (1, _) | (_, true) => None,
-            _ => Some(Timed::new(move |state| words::permute(instance, width, state))),
+            (1, _) => None,
+            (_, false) => Some(Timed::new(move |state| words::permute(instance, width, state))),
+            (_, true) => Some(Timed::new(move |state| words::invert(instance, width, state))),
         };
         Width { width, proved, word }
     }

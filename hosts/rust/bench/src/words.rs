@@ -1,5 +1,5 @@
-//! The word peer: the Rattle word form (`crates/permutation/src/words.rt` and what it calls) in Rust, with the same turns, masks, loads and
-//! stores, so that the benchmark compares one form in two languages.
+//! The word peer: the Rattle word form (`crates/permutation/src/words.rt`, `words_back.rt` and what they call) in Rust, with the same turns,
+//! masks, loads and stores, so that the benchmark compares one form in two languages.
 
 /// X or Y as the number hi * 2^64 + lo, or a mask over it.
 #[derive(Clone, Copy)]
@@ -90,6 +90,13 @@ fn push(r: Register, new: u64, place: u32, width: u32) -> Register {
     }
 }
 
+/// The mirror of `push`: moved up by `width`, with the bits of `new` in front, and no more than width + place bits.
+#[inline(always)]
+fn pull(r: Register, new: u64, place: u32, width: u32) -> Register {
+    let above = 128 - width - place;
+    Register { hi: (window(r, 64 - width) << above) >> above, lo: new | (r.lo << width) }
+}
+
 // L in strides.
 
 #[inline(always)]
@@ -100,6 +107,20 @@ fn four(l: u64) -> u64 {
 #[inline(always)]
 fn eight(l: u64) -> u64 {
     four(four(l))
+}
+
+#[inline(always)]
+fn two_back(l: u64) -> u64 {
+    l % 256 * 4 + ((l / 256) ^ (l / 2)) % 4
+}
+
+#[inline(always)]
+fn four_back(l: u64) -> u64 {
+    two_back(two_back(l))
+}
+
+fn ahead(l: u64, count: u32) -> u64 {
+    (0..count).fold(l, |now, _| eight(now))
 }
 
 // f, g and h for all steps of a turn: bit k of a word is the bit of step k.
@@ -148,25 +169,47 @@ fn h_s(x: Register, y: Register, l: u64) -> u64 {
         ^ three(x, 1, 7, 47) ^ three(x, 58, 90, 105) ^ three(y, 3, 18, 34) ^ three(y, 71, 80, 91) ^ window(y, 111)
 }
 
+/// The products of f and g.
+#[inline(always)]
+fn products_u(x: Register, y: Register) -> Gains {
+    Gains { x: products_at(x, [9, 15, 21, 28, 33, 37, 45, 52, 55, 59]), y: products_at(y, [7, 15, 20, 30, 35, 37, 42, 51, 54, 58]) }
+}
+
+#[inline(always)]
+fn products_d(x: Register, y: Register) -> Gains {
+    Gains {
+        x: products_at(x, [11, 19, 27, 36, 42, 47, 58, 67, 71, 79]),
+        y: products_at(y, [9, 19, 25, 38, 44, 47, 54, 67, 69, 78]),
+    }
+}
+
+#[inline(always)]
+fn products_s(x: Register, y: Register) -> Gains {
+    Gains {
+        x: products_at(x, [16, 28, 39, 52, 61, 69, 84, 97, 103, 111]),
+        y: products_at(y, [13, 28, 37, 56, 65, 69, 79, 96, 101, 109]),
+    }
+}
+
 /// What X and Y gain, but for the linear taps of f and g.
 #[inline(always)]
-fn rest(x: Register, y: Register, h: u64, f_taps: [u32; 10], g_taps: [u32; 10]) -> Gains {
-    Gains { x: y.lo ^ products_at(x, f_taps) ^ h, y: products_at(y, g_taps) ^ h }
+fn rest(y: Register, products: Gains, h: u64) -> Gains {
+    Gains { x: y.lo ^ products.x ^ h, y: products.y ^ h }
 }
 
 #[inline(always)]
 fn rest_u(x: Register, y: Register, l: u64) -> Gains {
-    rest(x, y, h_u(x, y, l), [9, 15, 21, 28, 33, 37, 45, 52, 55, 59], [7, 15, 20, 30, 35, 37, 42, 51, 54, 58])
+    rest(y, products_u(x, y), h_u(x, y, l))
 }
 
 #[inline(always)]
 fn rest_d(x: Register, y: Register, l: u64) -> Gains {
-    rest(x, y, h_d(x, y, l), [11, 19, 27, 36, 42, 47, 58, 67, 71, 79], [9, 19, 25, 38, 44, 47, 54, 67, 69, 78])
+    rest(y, products_d(x, y), h_d(x, y, l))
 }
 
 #[inline(always)]
 fn rest_s(x: Register, y: Register, l: u64) -> Gains {
-    rest(x, y, h_s(x, y, l), [16, 28, 39, 52, 61, 69, 84, 97, 103, 111], [13, 28, 37, 56, 65, 69, 79, 96, 101, 109])
+    rest(y, products_s(x, y), h_s(x, y, l))
 }
 
 /// The parity of the ones under a mask.
@@ -270,11 +313,93 @@ fn run(bits: &mut [u8; 256], instance: u32, width: u32, l: u32, count: u32) {
     save(s.y, bits, half, half);
 }
 
+// Steps undone, in strides of four.
+
+#[inline(always)]
+fn products_of(x: Register, y: Register, instance: u32) -> Gains {
+    match instance {
+        1 => products_u(x, y),
+        2 => products_d(x, y),
+        _ => products_s(x, y),
+    }
+}
+
+#[inline(always)]
+fn h_of(x: Register, y: Register, l: u64, instance: u32) -> u64 {
+    match instance {
+        1 => h_u(x, y, l),
+        2 => h_d(x, y, l),
+        _ => h_s(x, y, l),
+    }
+}
+
+#[inline(always)]
+fn masks_of(instance: u32) -> (Register, Register) {
+    match instance {
+        1 => (F_U, G_U),
+        2 => (F_D, G_D),
+        _ => (F_S, G_S),
+    }
+}
+
+/// f of X and g of Y in four steps.
+#[inline(always)]
+fn fed(x: Register, y: Register, instance: u32) -> Gains {
+    let (f, g) = masks_of(instance);
+    let products = products_of(x, y, instance);
+    let sums = linear(x, y, f, g, 4);
+    Gains { x: products.x ^ sums.x, y: products.y ^ sums.y }
+}
+
+#[inline(always)]
+fn found_x(x: Register, y: Register, place: u32, fed: Gains) -> u64 {
+    (window(x, place) ^ window(y, place) ^ fed.x ^ fed.y) % 16
+}
+
+#[inline(always)]
+fn found_y(y: Register, place: u32, g: u64, h: u64) -> u64 {
+    (window(y, place) ^ g ^ h) % 16
+}
+
+#[inline(always)]
+fn stride(s: State, instance: u32) -> State {
+    let (x, y) = (s.x, s.y);
+    let place = half_of(instance) as u32 - 4;
+    let before = four_back(s.l);
+    let y0 = pull(y, 0, place, 4);
+    let sums = fed(pull(x, 0, place, 4), y0, instance);
+    let x4 = pull(x, found_x(x, y, place, sums), place, 4);
+    let later = found_y(y, place, sums.y, h_of(x4, y0, before, instance)) / 4 * 4;
+    let y2 = pull(y, later, place, 4);
+    let earlier = found_y(y, place, sums.y, h_of(x4, y2, before, instance)) % 4;
+    State { x: x4, y: pull(y, later + earlier, place, 4), l: before }
+}
+
+fn undo(bits: &mut [u8; 256], instance: u32, width: u32, l: u32, count: u32) {
+    let half = half_of(instance);
+    let mut s = State { x: load(bits, 0, half), y: load(bits, half, half), l: ahead(u64::from(l), count / 8) };
+    for _ in 0..count / width {
+        for _ in 0..width / 4 {
+            s = stride(s, instance);
+        }
+    }
+    save(s.x, bits, 0, half);
+    save(s.y, bits, half, half);
+}
+
 /// P of a state in byte form, at width 8 or 16.
 pub fn permute(instance: u32, width: u32, state: &mut [u8]) {
     let mut bits = [0; 256];
     load_bytes(state, &mut bits);
     run(&mut bits, instance, width, 1023, 8 * half_of(instance) as u32);
+    store_bytes(&bits, state);
+}
+
+/// P's inverse of a state in byte form, at width 8 or 16.
+pub fn invert(instance: u32, width: u32, state: &mut [u8]) {
+    let mut bits = [0; 256];
+    load_bytes(state, &mut bits);
+    undo(&mut bits, instance, width, 1023, 8 * half_of(instance) as u32);
     store_bytes(&bits, state);
 }
 
@@ -293,6 +418,8 @@ mod tests {
                 super::permute(instance, width, &mut state);
                 reference::permute(instance, &mut expected);
                 assert_eq!(state, expected, "permute, instance {instance}, width {width}");
+                super::invert(instance, width, &mut state);
+                assert_eq!(state, start, "invert, instance {instance}, width {width}");
             }
         }
     }
