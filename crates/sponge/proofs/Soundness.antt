@@ -1,25 +1,24 @@
 -- The state that a message determines: it holds the definition's sponge over the message, and it is sound. So the initial state is sound,
 -- and soundness ties the runs to the definition's own count of P. Assumes nothing.
-use mathlib.Core.Bool.{Bool, true, false, cond, _&&_, _||_}
+use mathlib.Core.Bool.{true, _||_}
 use mathlib.Core.List.{List, [], _∷_}
-use mathlib.Core.Path.{_≡_, refl, sym, ap, ap₂, _∙_}
-use Prim.Native.Nat.{ℕ, zero, suc, _+_, _*_, _-_, _/_, _≤_, _<_}
+use mathlib.Core.Path.{_≡_, refl, _∙_}
+use Prim.Native.Nat.{ℕ, suc, _+_, _/_, _≤_}
 use native.Mathlib.Decide.{decLt}
 use native.Mathlib.Omega.{arith}
 use borrow.Author.Tests.{le-leb, eq-eqb}
-use lib.Dec.{leb, eqb}
+use lib.Dec.{eqb}
 use lib.ListN.{length, getD, drop, List·getD-eq-default}
 use lib.Seq.{getD-drop}
 use Rattle.quark.specs.Bytes.{bitsOf, bytesOf}
-use Rattle.quark.specs.Instance.{Instance, instanceOf}
-use Rattle.quark.specs.Sponge.{Counted, absorbing, closed as closedState}
+use Rattle.quark.specs.Instance.{instanceOf}
+use Rattle.quark.specs.Sponge.{absorbing}
 use Rattle.quark.proofs.Bits.{Wide}
 use Rattle.quark.proofs.Bytes.{bits-of-bytes, getD-bytesOf, length-bytesOf, byte-past}
-use Rattle.quark.proofs.Instance.{Regular, regular}
+use Rattle.quark.proofs.Instance.{regular}
 use Rattle.quark.proofs.Blocks.{wide-absorbing, wide-closed}
 use Rattle.quark.proofs.Runs.{runs-absorbing, runs-closed}
 use Rattle.sponge.specs.declared.State.{State}
-use Rattle.sponge.specs.Taking.{Content}
 use Rattle.sponge.specs.Soundness.{limit, absorbingPhase, closedPhase, allZero, soundRuns, sound, contentOf, stateWith}
 use Rattle.sponge.specs.Calls.{Message, opened, closed}
 use Rattle.sponge.specs.TwoLists.{bitsIn, phaseOf, spongeOf}

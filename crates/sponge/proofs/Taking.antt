@@ -1,19 +1,18 @@
 -- Taking bits one by one, as the operations work, gives the definition's block-wise sponge, for every message and every cut into pieces;
 -- and finishing gives its closed state and its digest. For any regular instance. Assumes nothing.
-use mathlib.Core.Bool.{Bool, true, false, cond}
+use mathlib.Core.Bool.{Bool, cond}
 use mathlib.Core.List.{List, [], _∷_, _++_, append-assoc, append-nil}
 use mathlib.Core.Path.{_≡_, refl, sym, ap, ap₂, _∙_}
-use Prim.Native.Nat.{ℕ, zero, suc, _+_, _*_, _-_, _/_, _%_, _≤_, _<_}
+use Prim.Native.Nat.{ℕ, suc, _+_, _*_, _-_, _/_, _%_, _≤_, _<_}
 use native.Mathlib.Nat.{mod-lt, div-add-mod', suc-ne-zero, mul-add-div-right, mul-add-mod-self-right, div-eq-of-lt, mod-eq-of-lt, add-zero}
 use native.Mathlib.Decide.{ℕ-discrete}
 use native.Mathlib.Numerals.{add-one}
 use native.Mathlib.Omega.{arith}
 use borrow.Author.Tests.{eq-eqb, ne-eqb}
-use lib.Dec.{eqb}
-use lib.ListN.{length, take, drop, replicate, length-append, length-drop, length-replicate}
+use lib.ListN.{length, drop, replicate, length-append, length-drop, length-replicate}
 use lib.Seq.{take-all}
 use Rattle.quark.specs.Instance.{Instance}
-use Rattle.quark.specs.Sponge.{Counted, runP, addLast, absorb, block, before, pad, blockCount, absorbing, absorbed, squeezed, output, closed, digest}
+use Rattle.quark.specs.Sponge.{Counted, runP, addLast, absorb, block, before, pad, absorbing, absorbed, squeezed, output, closed, digest}
 use Rattle.quark.proofs.Instance.{Regular}
 use Rattle.quark.proofs.Padding.{block-count}
 use Rattle.quark.proofs.Sums.{addFrom, addAt, addFrom-nil, addFrom-zeros, addFrom-snoc}

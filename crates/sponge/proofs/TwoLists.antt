@@ -4,15 +4,15 @@
 use mathlib.Core.Bool.{Bool, true, false, cond, not, _||_}
 use mathlib.Core.List.{List, [], _∷_, _++_}
 use mathlib.Core.Logic.{_↔_, _⊎_}
-use mathlib.Core.Path.{_≡_, refl, sym, ap, ap₂, _∙_, subst}
-use Prim.Native.Nat.{ℕ, zero, suc, _+_, _-_, _/_, _%_, _≤_, _<_}
+use mathlib.Core.Path.{_≡_, refl, sym, ap, _∙_, subst}
+use Prim.Native.Nat.{ℕ, _+_, _-_, _%_, _≤_}
 use native.Mathlib.Nat.{zero-div}
 use native.Mathlib.Omega.{arith}
 use borrow.Author.Tests.{eq-eqb, ltb-false}
 use lib.Dec.{eqb}
 use lib.ListN.{length, length-append}
 use Rattle.quark.specs.Bytes.{bitsOf}
-use Rattle.quark.specs.Instance.{Instance, instanceOf}
+use Rattle.quark.specs.Instance.{instanceOf}
 use Rattle.quark.specs.Sponge.{pad, blockCount, before, block, absorb, absorbing, closed as closedState}
 use Rattle.quark.specs.CloseAlike.{CloseAlike, OnlyDiffering, Meet}
 use Rattle.quark.proofs.Bits.{Bits, none, bits-append}
@@ -24,8 +24,8 @@ use Rattle.quark.proofs.CloseAlike.{close-alike, one-block-apart}
 use Rattle.permutation.specs.Lines.{isInstance, line1, line4, line5, firstLine}
 use Rattle.sponge.specs.declared.State.{State}
 use Rattle.sponge.specs.Taking.{Content, takeBits, finished}
-use Rattle.sponge.specs.Soundness.{limit, absorbingPhase, closedPhase, sound, contentOf, stateWith, fresh, allZeros}
-use Rattle.sponge.specs.Outcomes.{Result, resultBy, line2, line3, line6, line7, line8, initNumber, initResult, absorbNumber, absorbResult, finishNumber, finishResult}
+use Rattle.sponge.specs.Soundness.{limit, absorbingPhase, closedPhase, contentOf, stateWith, fresh}
+use Rattle.sponge.specs.Outcomes.{resultBy, line2, line3, line6, line7, line8, initNumber, initResult, absorbNumber, absorbResult, finishNumber, finishResult}
 use Rattle.sponge.specs.Calls.{Call, piece, finish, after, runFrom, run, Message, opened, closed, extended, extendedBy, messageOf}
 use Rattle.sponge.specs.TwoLists.{bitsIn, phaseOf, spongeOf, Follows, SameBits, pieceNumber, closeNumber, RunFollows, AnswersFollow, TwoLists, OneBlockApart, Demand3}
 use Rattle.sponge.proofs.Taking.{content-path, openContent, closedContent, absorb-nil, take-bits, finish-closed}

@@ -6,7 +6,7 @@ use lib.ListN.{length}
 use Rattle.quark.specs.Bytes.{bitsOf}
 use Rattle.permutation.specs.Lines.{line4, line5}
 use Rattle.sponge.specs.declared.State.{State}
-use Rattle.sponge.specs.Outcomes.{Result, line6, line7, initResult, absorbResult, finishResult}
+use Rattle.sponge.specs.Outcomes.{line6, line7, initResult, absorbResult, finishResult}
 
 -- a call's arguments but the state: a piece's bytes as they are when the call is made, its bit count and its step width; a finish's step
 -- width and the length of its buffer

@@ -2,17 +2,17 @@
 -- refused, the state comes back as handed in, and so do the lent bytes. Assumes nothing.
 use mathlib.Core.Bool.{Bool, not, cond}
 use mathlib.Core.List.{List, [], _∷_}
-use Prim.Native.Nat.{ℕ, _+_, _*_, _-_, _/_, _%_}
+use Prim.Native.Nat.{ℕ, _+_, _*_, _-_, _%_}
 use lib.Dec.{ltb, eqb}
 use lib.ListN.{length}
 use Rattle.quark.specs.Bytes.{bitsOf, bytesOf}
-use Rattle.quark.specs.Instance.{Instance, instanceOf}
+use Rattle.quark.specs.Instance.{instanceOf}
 use Rattle.quark.specs.Sponge.{digest}
 use Rattle.permutation.specs.Lines.{stateBytes, line1, line4, line5, firstLine}
 use Rattle.permutation.specs.Outcome.{Outcome, outcome, outcomeOf}
 use Rattle.sponge.specs.declared.State.{State}
 use Rattle.sponge.specs.declared.Reply.{Reply}
-use Rattle.sponge.specs.Taking.{Content, takeBits, given, finished}
+use Rattle.sponge.specs.Taking.{takeBits, given, finished}
 use Rattle.sponge.specs.Soundness.{limit, absorbingPhase, closedPhase, sound, contentOf, stateWith, fresh, allZeros}
 
 -- ---- the lines

@@ -4,10 +4,10 @@ use mathlib.Core.Bool.{true}
 use mathlib.Core.List.{List, [], _∷_}
 use mathlib.Core.Logic.{_↔_, _⊎_}
 use mathlib.Core.Path.{_≡_}
-use Prim.Native.Nat.{ℕ, _/_, _+_}
+use Prim.Native.Nat.{ℕ}
 use lib.ListN.{length}
 use Rattle.quark.specs.Bytes.{bitsOf}
-use Rattle.quark.specs.Instance.{Instance, instanceOf}
+use Rattle.quark.specs.Instance.{instanceOf}
 use Rattle.quark.specs.Sponge.{Counted, pad, blockCount, absorbing, closed as closedState}
 use Rattle.quark.specs.CloseAlike.{OnlyDiffering, Meet}
 use Rattle.permutation.specs.Lines.{isInstance, line4, line5, firstLine}
