@@ -75,6 +75,19 @@ pub fn verify(key: &[u8], journal: &[u8]) -> Result<(), Refused> {
 }
 
 /// The place that [`verify`] refuses with the same inputs; 0 where it accepts them.
+///
+/// ```
+/// let key = [1; 16];
+/// let (mut body, mut record) = ([0; 23], [0; 40]);
+/// (body[7], body[12], body[13]) = (1, 4, 6); // sequence 1, a test of lamp position 6
+/// wilbroged::seal(&key, &[0; 17], &body, &mut record).unwrap();
+///
+/// // The same record once more does not follow.
+/// let journal = [record, record].concat();
+/// assert_eq!(wilbroged::verify(&key, &journal).unwrap_err().number, 11);
+/// assert_eq!(wilbroged::refused_at(&key, &journal), 1);
+/// assert_eq!(wilbroged::refused_at(&key, &record), 0);
+/// ```
 pub fn refused_at(key: &[u8], journal: &[u8]) -> u64 {
     // SAFETY: as in `verify`.
     unsafe { journal_refused_at(key.as_ptr(), key.len(), journal.as_ptr(), journal.len()) }

@@ -1,5 +1,5 @@
-//! The declarations of `src` are those of the exported functions in `crates/quark_c/src`. Nothing else compares them: a linker sees names
-//! alone.
+//! The declarations of `src`, and those of the C header, are those of the exported functions in `crates/quark_c/src`. Nothing else compares
+//! them: a linker sees names alone. The header's refusal numbers are those of the Rattle sources.
 use std::collections::BTreeMap;
 use std::fs;
 
@@ -50,18 +50,82 @@ fn sources(folder: &str, ending: &str) -> String {
     texts.map(|text| without_comments(&text)).collect::<Vec<_>>().join("\n")
 }
 
-#[test]
-fn declarations_match_the_rattle_source() {
-    let rattle = sources("../../crates/quark_c/src", "rt");
-    let rust = sources("src", "rs");
-
-    let exported: BTreeMap<_, Signature> = signatures(&rattle, "pub extern \"C\" fn ", &['\n', '{'])
+/// The exported functions of the Rattle source, as C sees them.
+fn exported() -> BTreeMap<String, Signature> {
+    signatures(&sources("../../crates/quark_c/src", "rt"), "pub extern \"C\" fn ", &['\n', '{'])
         .into_iter()
         .map(|(name, (parameters, result))| (name, (parameters.into_iter().flat_map(in_c).collect(), result)))
-        .collect();
+        .collect()
+}
+
+#[test]
+fn declarations_match_the_rattle_source() {
+    let rust = sources("src", "rs");
     let blocks = rust.split("extern \"C\" {").skip(1).map(|block| block.split('}').next().unwrap());
     let declared: BTreeMap<_, Signature> = blocks.flat_map(|block| signatures(block, "fn ", &[';'])).collect();
 
-    assert!(exported.contains_key("quark_permute") && exported.contains_key("quark_invert"));
-    assert_eq!(declared, exported);
+    assert!(exported().contains_key("quark_permute") && exported().contains_key("quark_invert"));
+    assert_eq!(declared, exported());
+}
+
+/// The C header without its comments.
+fn header() -> String {
+    let path = concat!(env!("CARGO_MANIFEST_DIR"), "/../../include/wilbroged.h");
+    let text = fs::read_to_string(path).unwrap();
+    text.split("/*").map(|part| part.split_once("*/").map_or(part, |(_, code)| code)).collect()
+}
+
+/// A type of the header, as Rust has it.
+fn in_rust(kind: &str) -> String {
+    match kind {
+        "uint32_t" => "u32",
+        "uint64_t" => "u64",
+        "size_t" => "usize",
+        "const uint8_t *" => "*const u8",
+        "uint8_t *" => "*mut u8",
+        _ => panic!("the type {kind} of the header has no rule here"),
+    }
+    .to_string()
+}
+
+/// `TYPE NAME` of the header: the name, and the type as Rust has it.
+fn name_and_type(text: &str) -> (String, String) {
+    let text = text.trim();
+    let name = text.rfind([' ', '*']).expect("a type and a name") + 1;
+    (text[name..].to_string(), in_rust(text[..name].trim()))
+}
+
+#[test]
+fn the_header_matches_the_rattle_source() {
+    let code: String = header().lines().filter(|line| !line.starts_with('#')).collect::<Vec<_>>().join("\n");
+    let code = code.trim().strip_prefix("extern \"C\" {").unwrap().strip_suffix('}').unwrap();
+    let prototypes = code.split(';').map(str::trim).filter(|text| !text.is_empty()).map(|prototype| {
+        let (front, list) = prototype.split_once('(').expect("a parameter list");
+        let list = list.strip_suffix(')').expect("the end of a parameter list");
+        let (name, result) = name_and_type(front);
+        (name, (list.split(',').map(name_and_type).collect(), result))
+    });
+    assert_eq!(prototypes.collect::<BTreeMap<String, Signature>>(), exported());
+}
+
+#[test]
+fn the_headers_refusals_match_the_rattle_sources() {
+    let header = header();
+    let defined: BTreeMap<&str, &str> = header
+        .lines()
+        .filter_map(|line| line.strip_prefix("#define WILBROGED_"))
+        .filter_map(|definition| definition.split_once(' '))
+        .collect();
+
+    let lines: String = ["permutation", "sponge", "journal"]
+        .map(|name| fs::read_to_string(format!("{}/../../crates/{name}/src/lines.rt", env!("CARGO_MANIFEST_DIR"))).unwrap())
+        .concat();
+    let constants = lines.lines().filter_map(|line| line.strip_prefix("pub ").unwrap_or(line).strip_prefix("const "));
+    let numbers: BTreeMap<&str, &str> =
+        constants.map(|constant| constant.trim_end_matches(';').split_once(": u32 = ").unwrap()).collect();
+
+    // those that no exported function answers: there is no state among its arguments, line 8 never holds, and nothing is found by an index
+    let unanswered = ["UNSOUND_STATE", "CLOSED_STATE", "PADDED_LENGTH", "NO_SUCH_RECORD"];
+    let answered = numbers.into_iter().filter(|(name, _)| !unanswered.contains(name));
+    assert_eq!(defined, answered.collect());
 }

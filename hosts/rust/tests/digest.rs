@@ -1,5 +1,5 @@
-//! The proved digest agrees with the independent implementation at every width of every instance: for every bit length from 0 to 600, for
-//! long messages, and on the paper's Appendix B. Seeds are fixed.
+//! The proved digest agrees with the independent implementation at every width of every instance: for 102,000 short
+//! messages, for every bit length from 0 to 600, for long messages, and on the paper's Appendix B. Seeds are fixed.
 mod widths;
 
 use reference::random::Random;
@@ -16,6 +16,35 @@ fn compare(instance: u32, widths: &[u32], message: &[u8], bits: usize) {
         assert_eq!(digest(instance, width, message, bits as u64, &mut bytes), Ok(()));
         assert_eq!(bytes, whole, "instance {instance}, width {width}, {bits} bits of {message:02X?}");
     }
+}
+
+/// Random short messages of each instance, 102,000 of all three.
+const SHORT: usize = if cfg!(debug_assertions) { 32 } else { 34_000 };
+
+/// Messages of 0 to 100 bits, with as few bytes as they need; the slow width 1 takes every eighth of them.
+fn short_messages(instance: u32) {
+    let mut random = Random::new(300 + u64::from(instance));
+    for i in 0..SHORT {
+        let bits = random.word() as usize % 101;
+        let message = random.bytes(bits.div_ceil(8));
+        let skipped = if i % 8 == 0 { 0 } else { 1 };
+        compare(instance, &widths(instance)[skipped..], &message, bits);
+    }
+}
+
+#[test]
+fn short_messages_of_u() {
+    short_messages(1);
+}
+
+#[test]
+fn short_messages_of_d() {
+    short_messages(2);
+}
+
+#[test]
+fn short_messages_of_s() {
+    short_messages(3);
 }
 
 /// Every bit length, with as few bytes as it needs and with bytes behind.

@@ -1,0 +1,265 @@
+/*
+ * A host in C, as the supplier's would be: it knows the header and links the archive. It checks permutation, inverse, digest and journal
+ * against values typed from the paper's Appendix B (document 001) and against the sample journal, whose path is its argument. The last
+ * line is 'N passed, M failed'; the exit status is 0 only where M is 0 and N is not.
+ *
+ * It is C99 and C++17 at once; hosts/c/test builds and runs it as both.
+ */
+#include "wilbroged.h"
+
+#include <stdio.h>
+#include <string.h>
+
+static unsigned passed;
+static unsigned failed;
+
+static void count(int holds, int line, const char *what) {
+    if (holds) {
+        passed++;
+    } else {
+        failed++;
+        fprintf(stderr, "check.c:%d: failed: %s\n", line, what);
+    }
+}
+
+#define CHECK(what) count((what), __LINE__, #what)
+
+/* Whether all bytes of a buffer have one value. */
+static int all(const uint8_t *bytes, size_t length, uint8_t value) {
+    size_t i;
+    for (i = 0; i < length; i++) {
+        if (bytes[i] != value) {
+            return 0;
+        }
+    }
+    return 1;
+}
+
+/* What stands in a buffer before a call. */
+#define BEFORE 0xA5
+
+/* The longest digest, and one byte more. */
+#define ROOM 33
+
+/* Appendix B: two states, one permutation apart, and the digest of the empty message. */
+struct instance {
+    uint32_t number;
+    size_t bytes;
+    uint32_t widths[3];
+    size_t width_count;
+    uint8_t state[32];
+    uint8_t permuted[32];
+    uint8_t empty_digest[32];
+};
+
+static const struct instance instances[3] = {
+    {1, 17, {1, 8, 0}, 2,
+     {0xD8, 0xDA, 0xCA, 0x44, 0x41, 0x4A, 0x09, 0x97, 0x19, 0xC8, 0x0A, 0xA3, 0xAF, 0x06, 0x56, 0x44, 0x5B},
+     {0x9A, 0x03, 0xA9, 0xDE, 0xFB, 0xB9, 0xED, 0x38, 0x67, 0xDA, 0xB1, 0x8E, 0xC0, 0x39, 0x27, 0x62, 0x12},
+     {0x12, 0x6B, 0x75, 0xBC, 0xAB, 0x23, 0x14, 0x47, 0x50, 0xD0, 0x8B, 0xA3, 0x13, 0xBB, 0xD8, 0x00, 0xA4}},
+    {2, 22, {1, 8, 0}, 2,
+     {0xCC, 0x6C, 0x4A, 0xB7, 0xD1, 0x1F, 0xA9, 0xBD, 0xF6, 0xEE, 0xDE, 0x03, 0xD8, 0x7B, 0x68, 0xF9, 0x1B, 0xAA, 0x70, 0x6C, 0xA0, 0xE9},
+     {0xE1, 0xAF, 0xDD, 0xED, 0x75, 0xF7, 0x2D, 0x33, 0xAE, 0x3F, 0x60, 0xD3, 0xA1, 0xA9, 0xE9, 0xFA, 0x75, 0x9A, 0xC6, 0xF0, 0x82, 0xC7},
+     {0x82, 0xC7, 0xF3, 0x80, 0xE2, 0x31, 0x57, 0x8E, 0x2F, 0xF4, 0xC2, 0xA4, 0x02, 0xE1, 0x8B, 0xF3, 0x7A, 0xEA, 0x84, 0x77, 0x29, 0x8D}},
+    {3, 32, {1, 8, 16}, 3,
+     {0x39, 0x72, 0x51, 0xCE, 0xE1, 0xDE, 0x8A, 0xA7, 0x3E, 0xA2, 0x62, 0x50, 0xC6, 0xD7, 0xBE, 0x12,
+      0x8C, 0xD3, 0xE7, 0x9D, 0xD7, 0x18, 0xC2, 0x4B, 0x8A, 0x19, 0xD0, 0x9C, 0xA4, 0x92, 0xDA, 0x5D},
+     {0x3D, 0x63, 0xF5, 0x41, 0x00, 0xA7, 0xBC, 0x51, 0x35, 0x69, 0x2F, 0x3B, 0xDE, 0x15, 0x63, 0xF7,
+      0x99, 0x8A, 0x69, 0x65, 0xFE, 0x6D, 0x26, 0xAB, 0x40, 0x26, 0x2D, 0x20, 0x03, 0x25, 0x62, 0x14},
+     {0x03, 0x25, 0x62, 0x14, 0xB9, 0x2E, 0x81, 0x1C, 0x32, 0x1A, 0xE8, 0x6B, 0xAB, 0x4B, 0x0E, 0x7A,
+      0xE9, 0xC2, 0x2C, 0x42, 0x88, 0x2F, 0xCC, 0xDE, 0x8C, 0x22, 0xBF, 0xF6, 0xA0, 0xA1, 0xD6, 0xF1}},
+};
+
+static void permutations(void) {
+    size_t i, w;
+    for (i = 0; i < 3; i++) {
+        const struct instance *in = &instances[i];
+        for (w = 0; w < in->width_count; w++) {
+            uint8_t state[ROOM];
+            memset(state, BEFORE, ROOM);
+            memcpy(state, in->state, in->bytes);
+            CHECK(quark_permute(in->number, in->widths[w], state, in->bytes) == 0);
+            CHECK(memcmp(state, in->permuted, in->bytes) == 0);
+            CHECK(quark_invert(in->number, in->widths[w], state, in->bytes) == 0);
+            CHECK(memcmp(state, in->state, in->bytes) == 0);
+            CHECK(all(state + in->bytes, ROOM - in->bytes, BEFORE));
+        }
+    }
+}
+
+/* Refusals of permutation and inverse: the number of both, or 99 where they differ or a byte was written. */
+static uint32_t buffer_refusal(uint32_t instance, uint32_t width, size_t length) {
+    uint8_t state[ROOM];
+    uint32_t forward, back;
+    memset(state, BEFORE, ROOM);
+    forward = quark_permute(instance, width, state, length);
+    back = quark_invert(instance, width, state, length);
+    return forward == back && all(state, ROOM, BEFORE) ? forward : 99;
+}
+
+static void permutation_refusals(void) {
+    CHECK(buffer_refusal(0, 2, 16) == WILBROGED_UNKNOWN_INSTANCE);
+    CHECK(buffer_refusal(257, 8, 17) == WILBROGED_UNKNOWN_INSTANCE);
+    CHECK(buffer_refusal(1, 16, 16) == WILBROGED_UNKNOWN_WIDTH);
+    CHECK(buffer_refusal(3, 264, 32) == WILBROGED_UNKNOWN_WIDTH);
+    CHECK(buffer_refusal(2, 8, 17) == WILBROGED_WRONG_LENGTH);
+    CHECK(buffer_refusal(3, 16, 33) == WILBROGED_WRONG_LENGTH);
+    CHECK(quark_permute(1, 8, NULL, 0) == WILBROGED_WRONG_LENGTH);
+    CHECK(quark_invert(1, 8, NULL, 0) == WILBROGED_WRONG_LENGTH);
+}
+
+static void empty_digests(void) {
+    size_t i, w;
+    for (i = 0; i < 3; i++) {
+        const struct instance *in = &instances[i];
+        for (w = 0; w < in->width_count; w++) {
+            uint8_t digest[ROOM];
+            memset(digest, BEFORE, ROOM);
+            CHECK(quark_digest(in->number, in->widths[w], NULL, 0, 0, digest, in->bytes) == 0);
+            CHECK(memcmp(digest, in->empty_digest, in->bytes) == 0);
+            CHECK(all(digest + in->bytes, ROOM - in->bytes, BEFORE));
+            /* a message of which no bit is taken is the empty one */
+            memset(digest, BEFORE, ROOM);
+            CHECK(quark_digest(in->number, in->widths[w], in->state, in->bytes, 0, digest, in->bytes) == 0);
+            CHECK(memcmp(digest, in->empty_digest, in->bytes) == 0);
+        }
+    }
+}
+
+/* One bit more than a total may have. */
+#define OVER_LIMIT 16777216
+
+static uint8_t long_message[OVER_LIMIT / 8];
+
+/* The refusal's number, or 99 where a byte of the digest's buffer was written. */
+static uint32_t digest_refusal(uint32_t instance, uint32_t width, size_t message_len, uint64_t bit_count, size_t digest_len) {
+    uint8_t digest[ROOM];
+    uint32_t number;
+    memset(digest, BEFORE, ROOM);
+    number = quark_digest(instance, width, long_message, message_len, bit_count, digest, digest_len);
+    return all(digest, ROOM, BEFORE) ? number : 99;
+}
+
+static void digest_refusals(void) {
+    const size_t length = sizeof long_message;
+    size_t i;
+    CHECK(digest_refusal(0, 8, 2, 16, 17) == WILBROGED_UNKNOWN_INSTANCE);
+    CHECK(digest_refusal(4, 8, 2, 16, 17) == WILBROGED_UNKNOWN_INSTANCE);
+    CHECK(digest_refusal(257, 8, 2, 16, 17) == WILBROGED_UNKNOWN_INSTANCE);
+    for (i = 0; i < 3; i++) {
+        const uint32_t number = instances[i].number;
+        const size_t bytes = instances[i].bytes;
+        CHECK(digest_refusal(number, 0, 2, 16, bytes) == WILBROGED_UNKNOWN_WIDTH);
+        CHECK(digest_refusal(number, 264, 2, 16, bytes) == WILBROGED_UNKNOWN_WIDTH);
+        CHECK(digest_refusal(number, 8, 2, 16, 0) == WILBROGED_WRONG_LENGTH);
+        CHECK(digest_refusal(number, 8, 2, 16, bytes - 1) == WILBROGED_WRONG_LENGTH);
+        CHECK(digest_refusal(number, 8, 2, 16, bytes + 1) == WILBROGED_WRONG_LENGTH);
+        CHECK(digest_refusal(number, 8, 0, 1, bytes) == WILBROGED_COUNT_OVER_BYTES);
+        CHECK(digest_refusal(number, 8, 2, 17, bytes) == WILBROGED_COUNT_OVER_BYTES);
+        CHECK(digest_refusal(number, 8, 2, UINT64_MAX, bytes) == WILBROGED_COUNT_OVER_BYTES);
+        CHECK(digest_refusal(number, 8, length, OVER_LIMIT, bytes) == WILBROGED_TOTAL_OVER_LIMIT);
+        /* where several hold, the first of 1, 4, 5, 6, 7 */
+        CHECK(digest_refusal(0, 2, length, OVER_LIMIT + 1, bytes - 1) == WILBROGED_UNKNOWN_INSTANCE);
+        CHECK(digest_refusal(number, 2, length, OVER_LIMIT + 1, bytes - 1) == WILBROGED_UNKNOWN_WIDTH);
+        CHECK(digest_refusal(number, 8, length, OVER_LIMIT + 1, bytes - 1) == WILBROGED_WRONG_LENGTH);
+        CHECK(digest_refusal(number, 8, length, OVER_LIMIT + 1, bytes) == WILBROGED_COUNT_OVER_BYTES);
+    }
+    CHECK(digest_refusal(1, 16, 2, 16, 17) == WILBROGED_UNKNOWN_WIDTH);
+    CHECK(digest_refusal(2, 16, 2, 16, 22) == WILBROGED_UNKNOWN_WIDTH);
+}
+
+/* The sample: a key, and a journal of five records. */
+#define KEY 16
+#define SEAL 17
+#define BODY 23
+#define RECORD 40
+#define RECORDS 5
+#define JOURNAL (RECORDS * RECORD)
+
+/* Whether the sample with one byte changed is refused by a number, at a record. */
+static int damaged(const uint8_t *sample, size_t record, size_t byte, uint32_t number) {
+    uint8_t journal[JOURNAL];
+    memcpy(journal, sample + KEY, JOURNAL);
+    journal[RECORD * record + byte] ^= 0x80;
+    return journal_verify(sample, KEY, journal, JOURNAL) == number && journal_refused_at(sample, KEY, journal, JOURNAL) == record;
+}
+
+/* Whether sealing a body of the sample again, with the seal before it, gives the record's 40 bytes. */
+static int sealed_again(const uint8_t *sample, size_t index) {
+    static const uint8_t zeros[SEAL] = {0};
+    const uint8_t *whole = sample + KEY + RECORD * index;
+    uint8_t record[RECORD + 1];
+    memset(record, BEFORE, sizeof record);
+    return journal_seal(sample, KEY, index == 0 ? zeros : whole - SEAL, SEAL, whole, BODY, record, RECORD) == 0
+        && memcmp(record, whole, RECORD) == 0 && record[RECORD] == BEFORE;
+}
+
+/* The refusal's number, or 99 where a byte of the record was written. */
+static uint32_t seal_refusal(const uint8_t *sample, size_t key_len, size_t previous_len, size_t body_len, size_t record_len) {
+    uint8_t record[RECORD + 1];
+    uint32_t number;
+    memset(record, BEFORE, sizeof record);
+    number = journal_seal(sample, key_len, sample + KEY + BODY, previous_len, sample + KEY + RECORD, body_len, record, record_len);
+    return all(record, sizeof record, BEFORE) ? number : 99;
+}
+
+static void journals(const uint8_t *sample) {
+    const uint8_t *key = sample;
+    const uint8_t *journal = sample + KEY;
+    uint8_t body[BODY], record[RECORD];
+    size_t i;
+
+    CHECK(journal_verify(key, KEY, journal, JOURNAL) == 0);
+    CHECK(journal_refused_at(key, KEY, journal, JOURNAL) == 0);
+    CHECK(journal_verify(key, KEY, NULL, 0) == 0);
+    CHECK(journal_verify(key, KEY - 1, journal, JOURNAL) == WILBROGED_WRONG_LENGTH);
+    CHECK(journal_verify(key, KEY, journal, JOURNAL - 1) == WILBROGED_WRONG_JOURNAL_LENGTH);
+    CHECK(journal_refused_at(key, KEY, journal, JOURNAL - 1) == 0);
+    CHECK(journal_verify(key, KEY, long_message, 64040) == WILBROGED_WRONG_JOURNAL_LENGTH);
+    for (i = 0; i < RECORDS; i++) {
+        CHECK(sealed_again(sample, i));
+        CHECK(damaged(sample, i, 12, WILBROGED_BROKEN_LAYOUT));
+        CHECK(damaged(sample, i, 4, WILBROGED_NOT_FOLLOWING));
+        CHECK(damaged(sample, i, 14, WILBROGED_DIFFERENT_SEAL));
+        CHECK(damaged(sample, i, BODY, WILBROGED_DIFFERENT_SEAL));
+        CHECK(damaged(sample, i, RECORD - 1, WILBROGED_DIFFERENT_SEAL));
+    }
+
+    CHECK(seal_refusal(sample, KEY - 1, SEAL, BODY, RECORD) == WILBROGED_WRONG_LENGTH);
+    CHECK(seal_refusal(sample, KEY, SEAL + 1, BODY, RECORD) == WILBROGED_WRONG_LENGTH);
+    CHECK(seal_refusal(sample, KEY, SEAL, BODY - 1, RECORD) == WILBROGED_WRONG_LENGTH);
+    CHECK(seal_refusal(sample, KEY, SEAL, BODY, RECORD + 1) == WILBROGED_WRONG_LENGTH);
+    memcpy(body, journal, BODY);
+    body[13] = 7;
+    memset(record, BEFORE, RECORD);
+    CHECK(journal_seal(key, KEY, journal + BODY, SEAL, body, BODY, record, RECORD) == WILBROGED_BROKEN_LAYOUT);
+    CHECK(all(record, RECORD, BEFORE));
+}
+
+/* Reads the sample; 0 where it does not have the length that is expected. */
+static int read_sample(const char *path, uint8_t *sample) {
+    FILE *file = fopen(path, "rb");
+    size_t length;
+    if (file == NULL) {
+        return 0;
+    }
+    length = fread(sample, 1, KEY + JOURNAL + 1, file);
+    fclose(file);
+    return length == KEY + JOURNAL;
+}
+
+int main(int argc, char **argv) {
+    uint8_t sample[KEY + JOURNAL + 1];
+    int readable = argc == 2 && read_sample(argv[1], sample);
+
+    permutations();
+    permutation_refusals();
+    empty_digests();
+    digest_refusals();
+    CHECK(readable);
+    if (readable) {
+        journals(sample);
+    }
+    printf("%u passed, %u failed\n", passed, failed);
+    return failed == 0 && passed > 0 ? 0 : 1;
+}
