@@ -1,122 +1,176 @@
-//! The benchmark: the proved permutation and inverse at each width of each instance, beside a bit-per-cell form and a word form in
-//! Rust, and the journal check, in one run. It prints times and ratios and asserts nothing.
+//! The benchmark: permutation, inverse and digest at each width of each instance, and the journal check, each beside two peers in Rust in the
+//! same run: one of the same form, and one with a bit to a cell (`reference`). It prints one table of times and ratios and asserts nothing.
 //!
 //! `cargo run --release --offline --bin bench` in `hosts/rust`, after `rt staticlib quark_c` in the repository's root.
-mod journal;
+mod cells;
+mod peer;
+mod records;
+mod sponge;
+mod timing;
 mod words;
 
+use reference::journals::{bodies, sealed};
 use reference::random::Random;
-use std::time::{Duration, Instant};
+use timing::{Timed, ROUND};
 
-/// Many short rounds: the best of them is one that nothing else on the machine disturbed.
-const ROUNDS: usize = 240;
-const ROUND: Duration = Duration::from_micros(500);
+/// The instances with their widths.
+const INSTANCES: [(u32, &str, &[u32]); 3] = [(1, "U", &[1, 8]), (2, "D", &[1, 8]), (3, "S", &[1, 8, 16])];
 
-/// A function of a state.
-type Call = Box<dyn Fn(&mut [u8])>;
-
-/// A function that is measured, and the µs a call of its best round.
-struct Timed {
-    call: Call,
-    best: f64,
-}
-
-impl Timed {
-    fn new(call: impl Fn(&mut [u8]) + 'static) -> Timed {
-        Timed { call: Box::new(call), best: f64::INFINITY }
-    }
-
-    /// One more round. Every call works on what the call before it left.
-    fn round(&mut self, state: &mut [u8]) {
-        let start = Instant::now();
-        let mut calls = 0;
-        while start.elapsed() < ROUND {
-            for _ in 0..8 {
-                (self.call)(state);
-            }
-            calls += 8;
-        }
-        self.best = self.best.min(start.elapsed().as_secs_f64() * 1e6 / f64::from(calls));
-    }
-}
-
-/// The proved function at one width, and the word form with the same operations, where there is one: not at width 1, and not of the
-/// inverse yet.
+/// The proved function at one width, and the same form in Rust.
 struct Width {
     width: u32,
     proved: Timed,
-    word: Option<Timed>,
+    same: Timed,
 }
 
-impl Width {
-    fn new(instance: u32, width: u32, back: bool) -> Width {
-        let proved = match back {
-            false => Timed::new(move |state| wilbroged::permute(instance, width, state).unwrap()),
-            true => Timed::new(move |state| wilbroged::invert(instance, width, state).unwrap()),
-        };
-        let word = match (width, back) {
-            (1, _) => None,
-            (_, false) => Some(Timed::new(move |state| words::permute(instance, width, state))),
-            (_, true) => Some(Timed::new(move |state| words::invert(instance, width, state))),
-        };
-        Width { width, proved, word }
-    }
-
-    fn print(&self, heading: &str, cell: f64) {
-        let proved = self.proved.best;
-        let (word, speed) = match &self.word {
-            Some(word) => (format!("{:.2}", word.best), format!("{:.2}", word.best / proved)),
-            None => ("-".into(), "-".into()),
-        };
-        let width = self.width;
-        println!("{heading}  {width:5}  {proved:>7.2}  {word:>9}  {cell:>12.2}  {speed:>12}  {:>16.2}", cell / proved);
-    }
+/// One kind of work on one instance, at each of its widths, and the bit-per-cell form, which has no width.
+struct Work {
+    name: String,
+    instance: &'static str,
+    /// The unit of the times, and how many make a second.
+    unit: (&'static str, f64),
+    rounds: usize,
+    calls_at_once: u32,
+    widths: Vec<Width>,
+    cell: Timed,
 }
 
-/// Measures all widths of an instance in one direction and the bit-per-cell form, turn by turn, so that a slow spell of the machine
-/// meets all of them and their ratios hold. Prints a row a width, and returns how the widths compare.
-fn measure(instance: u32, name: &str, widths: &[u32], back: bool) -> Vec<String> {
-    let mut widths: Vec<Width> = widths.iter().map(|&width| Width::new(instance, width, back)).collect();
-    let mut cell = match back {
-        false => Timed::new(move |state| reference::permute(instance, state)),
-        true => Timed::new(move |state| reference::invert(instance, state)),
-    };
-    let mut state = Random::new(7).bytes(reference::state_bytes(instance));
-    for _ in 0..ROUNDS {
-        cell.round(&mut state);
-        for width in &mut widths {
-            width.proved.round(&mut state);
-            if let Some(word) = &mut width.word {
-                word.round(&mut state);
+const MICROSECONDS: (&str, f64) = ("µs", 1e6);
+const MILLISECONDS: (&str, f64) = ("ms", 1e3);
+
+impl Work {
+    fn permutation(instance: u32, name: &'static str, widths: &[u32], back: bool) -> Work {
+        let at = |width| match back {
+            false => Width {
+                width,
+                proved: Timed::new(move |state| wilbroged::permute(instance, width, state).unwrap()),
+                same: Timed::new(move |state| peer::permute(instance, width, state)),
+            },
+            true => Width {
+                width,
+                proved: Timed::new(move |state| wilbroged::invert(instance, width, state).unwrap()),
+                same: Timed::new(move |state| peer::invert(instance, width, state)),
+            },
+        };
+        Work {
+            name: if back { "inverse" } else { "permutation" }.into(),
+            instance: name,
+            unit: MICROSECONDS,
+            rounds: 240,
+            calls_at_once: 8,
+            widths: widths.iter().map(|&width| at(width)).collect(),
+            cell: match back {
+                false => Timed::new(move |state| reference::permute(instance, state)),
+                true => Timed::new(move |state| reference::invert(instance, state)),
+            },
+        }
+    }
+
+    fn digest(instance: u32, name: &'static str, widths: &[u32], bytes: usize) -> Work {
+        let message = Random::new(8).bytes(bytes);
+        let at = |width| {
+            let (ours, theirs) = (message.clone(), message.clone());
+            Width {
+                width,
+                proved: Timed::new(move |digest| {
+                    wilbroged::digest(instance, width, &ours, 8 * ours.len() as u64, digest).unwrap();
+                }),
+                same: Timed::new(move |digest| {
+                    sponge::digest(instance, width, &theirs, 8 * theirs.len(), digest);
+                }),
+            }
+        };
+        let widths = widths.iter().map(|&width| at(width)).collect();
+        Work {
+            name: format!("digest, {bytes} bytes"),
+            instance: name,
+            unit: MICROSECONDS,
+            rounds: if bytes > 100 { 30 } else { 120 },
+            calls_at_once: 1,
+            widths,
+            cell: Timed::new(move |digest| {
+                digest.copy_from_slice(&reference::digest::digest(instance, &message, 8 * message.len()).bytes);
+            }),
+        }
+    }
+
+    fn verify(records: usize) -> Work {
+        let mut random = Random::new(9);
+        let key = random.bytes(16);
+        let journal = sealed(&key, &bodies(&mut random, records));
+        let checked = |check: fn(&[u8], &[u8]) -> bool| {
+            let (key, journal) = (key.clone(), journal.clone());
+            Timed::new(move |_| assert!(check(&key, &journal)))
+        };
+        Work {
+            name: format!("verify, {records} records"),
+            instance: "U",
+            unit: MILLISECONDS,
+            rounds: 7,
+            calls_at_once: 1,
+            widths: vec![Width {
+                width: 8,
+                proved: checked(|key, journal| wilbroged::verify(key, journal).is_ok()),
+                same: checked(|key, journal| records::verify(key, journal).is_ok()),
+            }],
+            cell: checked(|key, journal| reference::journal::verify(key, journal).is_ok()),
+        }
+    }
+
+    /// Measures all functions turn by turn, so that a slow spell of the machine meets all of them and their ratios hold.
+    fn measure(&mut self, buffer: &mut [u8]) {
+        for _ in 0..self.rounds {
+            self.cell.round(buffer, self.calls_at_once);
+            for width in &mut self.widths {
+                width.proved.round(buffer, self.calls_at_once);
+                width.same.round(buffer, self.calls_at_once);
             }
         }
     }
-    let direction = if back { "inverse" } else { "forward" };
-    for width in &widths {
-        width.print(&format!("{name:8}  {direction:9}"), cell.best);
+
+    /// A row for each width.
+    fn print(&self) {
+        let (unit, a_second) = self.unit;
+        let cell = self.cell.best;
+        let mut narrower: Option<f64> = None;
+        for row in &self.widths {
+            let (proved, same) = (row.proved.best, row.same.best);
+            let against_narrower = narrower.map_or("-".into(), |narrower| format!("{:.2}", narrower / proved));
+            println!(
+                "{:20}  {:8}  {:5}  {unit:4}  {:>8.2}  {:>9.2}  {:>12.2}  {:>12.2}  {:>15.2}  {:>16}",
+                self.name,
+                self.instance,
+                row.width,
+                proved * a_second,
+                same * a_second,
+                cell * a_second,
+                same / proved,
+                cell / proved,
+                against_narrower,
+            );
+            narrower = Some(proved);
+        }
     }
-    let compare = |pair: &[Width]| {
-        let speed = pair[0].proved.best / pair[1].proved.best;
-        format!("{name} {direction}: width {} is {speed:.2} times as fast as width {}", pair[1].width, pair[0].width)
-    };
-    widths.windows(2).map(compare).collect()
 }
 
 fn main() {
-    println!("µs a permutation, the best of {ROUNDS} rounds of {} µs; no buffer was cleared first.", ROUND.as_micros());
-    println!("A speed is the peer's time over the proved function's.");
+    println!("Times of a call: the best of 240 rounds (permutation, inverse), 120 (digest), 30 (of 1000 bytes) or 7 (verify), each of at");
+    println!(
+        "least {} µs. No buffer was cleared first. A speed is the time of the other over that of the proved",
+        ROUND.as_micros()
+    );
+    println!("function: of the same form in Rust, of the bit-per-cell form in Rust, and of the proved function at the next narrower width.");
     println!();
-    println!("instance  direction  width   proved  word peer  bit-per-cell  speed (word)  speed (per cell)");
-    let mut comparisons = Vec::new();
-    for (instance, name, widths) in [(1, "U", &[1, 8][..]), (2, "D", &[1, 8]), (3, "S", &[1, 8, 16])] {
-        for back in [false, true] {
-            comparisons.extend(measure(instance, name, widths, back));
-        }
+    println!("work                  instance  width  unit    proved  same form  bit-per-cell  speed (same)  speed (per cell)  speed (narrower)");
+    let permutations = INSTANCES.iter().flat_map(|&(instance, name, widths)| {
+        [false, true].map(|back| (instance, Work::permutation(instance, name, widths, back)))
+    });
+    let digests = INSTANCES
+        .iter()
+        .flat_map(|&(instance, name, widths)| [0, 56, 1000].map(|bytes| (instance, Work::digest(instance, name, widths, bytes))));
+    let verify = [(1, Work::verify(1600))];
+    for (instance, mut work) in permutations.chain(digests).chain(verify) {
+        work.measure(&mut Random::new(7).bytes(reference::state_bytes(instance)));
+        work.print();
     }
-    println!();
-    for comparison in comparisons {
-        println!("{comparison}");
-    }
-    println!();
-    journal::print();
 }

@@ -25,13 +25,13 @@ struct State {
 
 // Bytes and cells.
 
-fn load_bytes(buffer: &[u8], bits: &mut [u8; 256]) {
+pub fn load_bytes(buffer: &[u8], bits: &mut [u8; 256]) {
     for i in 0..8 * buffer.len() {
         bits[i] = (buffer[i / 8] >> (7 - i % 8)) % 2;
     }
 }
 
-fn store_bytes(bits: &[u8; 256], buffer: &mut [u8]) {
+pub fn store_bytes(bits: &[u8; 256], buffer: &mut [u8]) {
     for j in 0..buffer.len() {
         let b = &bits[8 * j..8 * j + 8];
         buffer[j] = b[0] * 128 + b[1] * 64 + b[2] * 32 + b[3] * 16 + b[4] * 8 + b[5] * 4 + b[6] * 2 + b[7];
