@@ -13,6 +13,12 @@ use reference::journals::{bodies, sealed};
 use reference::random::Random;
 use timing::{Timed, ROUND};
 
+/// Rounds of each function: so many that some are undisturbed, and few enough for long calls.
+const SHORT_ROUNDS: usize = 240;
+const DIGEST_ROUNDS: usize = 120;
+const LONG_DIGEST_ROUNDS: usize = 30;
+const VERIFY_ROUNDS: usize = 15;
+
 /// The instances with their widths.
 const INSTANCES: [(u32, &str, &[u32]); 3] = [(1, "U", &[1, 8]), (2, "D", &[1, 8]), (3, "S", &[1, 8, 16])];
 
@@ -56,7 +62,7 @@ impl Work {
             name: if back { "inverse" } else { "permutation" }.into(),
             instance: name,
             unit: MICROSECONDS,
-            rounds: 240,
+            rounds: SHORT_ROUNDS,
             calls_at_once: 8,
             widths: widths.iter().map(|&width| at(width)).collect(),
             cell: match back {
@@ -85,7 +91,7 @@ impl Work {
             name: format!("digest, {bytes} bytes"),
             instance: name,
             unit: MICROSECONDS,
-            rounds: if bytes > 100 { 30 } else { 120 },
+            rounds: if bytes > 100 { LONG_DIGEST_ROUNDS } else { DIGEST_ROUNDS },
             calls_at_once: 1,
             widths,
             cell: Timed::new(move |digest| {
@@ -106,7 +112,7 @@ impl Work {
             name: format!("verify, {records} records"),
             instance: "U",
             unit: MILLISECONDS,
-            rounds: 7,
+            rounds: VERIFY_ROUNDS,
             calls_at_once: 1,
             widths: vec![Width {
                 width: 8,
@@ -137,7 +143,7 @@ impl Work {
             let (proved, same) = (row.proved.best, row.same.best);
             let against_narrower = narrower.map_or("-".into(), |narrower| format!("{:.2}", narrower / proved));
             println!(
-                "{:20}  {:8}  {:5}  {unit:4}  {:>8.2}  {:>9.2}  {:>12.2}  {:>12.2}  {:>15.2}  {:>16}",
+                "{:20}  {:8}  {:5}  {unit:4}  {:>8.2}  {:>9.2}  {:>12.2}  {:>12.2}  {:>16.2}  {:>16}",
                 self.name,
                 self.instance,
                 row.width,
@@ -154,12 +160,13 @@ impl Work {
 }
 
 fn main() {
-    println!("Times of a call: the best of 240 rounds (permutation, inverse), 120 (digest), 30 (of 1000 bytes) or 7 (verify), each of at");
+    println!("The time of a call is the best of {SHORT_ROUNDS} rounds (permutation, inverse), {DIGEST_ROUNDS} (digest of 0 and 56 bytes),");
     println!(
-        "least {} µs. No buffer was cleared first. A speed is the time of the other over that of the proved",
+        "{LONG_DIGEST_ROUNDS} (of 1000 bytes) or {VERIFY_ROUNDS} (verify), each of {} µs or one call. No buffer was cleared first.",
         ROUND.as_micros()
     );
-    println!("function: of the same form in Rust, of the bit-per-cell form in Rust, and of the proved function at the next narrower width.");
+    println!("A speed is a time over the proved function's: the time of the same form in Rust, of the bit-per-cell form in Rust, and of the");
+    println!("proved function at the next narrower width.");
     println!();
     println!("work                  instance  width  unit    proved  same form  bit-per-cell  speed (same)  speed (per cell)  speed (narrower)");
     let permutations = INSTANCES.iter().flat_map(|&(instance, name, widths)| {
