@@ -2,6 +2,8 @@
 pub mod Growing
 pub mod Decimal
 pub mod Found
+pub mod Reading
+pub mod ReadInTurn
 pub mod Compared
 pub mod Gathered
 pub mod SealRuns

@@ -4,5 +4,6 @@ pub mod Seal
 pub mod Journal
 pub mod FirstRefusal
 pub mod InTurn
+pub mod Next
 pub mod Report
 pub mod leaf
