@@ -1,123 +1,95 @@
--- L in strides: its first bit in each step, four steps from its old bits, and two steps undone. L is the ten bits of a number. Assumes nothing.
-use mathlib.Core.List.{List, [], _∷_, _++_, append-nil}
-use mathlib.Core.Logic.{⊎-elim, _⊎_, inl, inr}
-use mathlib.Core.Path.{_≡_, refl, sym, ap, ap₂, _∙_}
-use Prim.Native.Nat.{ℕ, zero, suc, _+_, _-_, _*_, _/_, _%_, _^_, _≤_, _<_}
-use native.Mathlib.Nat.{add-comm, add-zero, mod-lt}
+-- L in strides: words of its first bits, four steps from its old bits, and 24 steps on forty bits of its sequence. L is the ten bits of a
+-- number. Assumes nothing.
+use mathlib.Core.List.{List}
+use mathlib.Core.Path.{_≡_, refl, sym, ap, _∙_, subst}
+use Prim.Native.Nat.{ℕ, _+_, _*_, _/_, _%_, _^_, _<_}
+use native.Mathlib.Nat.{add-comm, mod-lt}
 use native.Mathlib.Omega.{arith}
 use lib.Bits.{bitXor}
-use lib.ListN.{length, drop, length-drop, List·getD-append}
-use lib.Pow.{pow-pos, high, low}
-use lib.Seq.{getD-drop}
-use Rattle.quark.specs.Bytes.{bit, tabulate}
-use Rattle.quark.specs.Feedback.{p}
-use Rattle.quark.specs.Step.{stepL, stepsL}
-use Rattle.quark.specs.leaf.Word.{wordBit, wordBits}
-use Rattle.quark.proofs.Together.{shift-moved, stepsL-add}
-use Rattle.quark.proofs.Word.{wordBit-lt, wordBit-xor, wordBit-shr, wordBit-mod, length-wordBits, getD-wordBits, move-wordBits}
-use Rattle.permutation.proofs.MovedUp.{tabulate-word, low-bit, high-bit, up-moved}
+use lib.ListN.{length}
+use lib.Pow.{pow-pos, shr-lt}
+use Rattle.quark.specs.Step.{stepsL}
+use Rattle.quark.specs.leaf.Word.{wordBits}
+use Rattle.quark.proofs.Together.{stepsL-add}
+use Rattle.quark.proofs.Word.{wordBit-mod, length-wordBits}
+use Rattle.permutation.proofs.LSequence.{Recurs, doubled, length-stepsL, sequence, recurs, Firsts, first-bit, ten-firsts, firsts-joined, firsts-further}
+use Rattle.permutation.proofs.MovedUp.{up-lt}
 
--- what L gains in step j, of its old bits
-unfoldable pub gain : List ℕ → ℕ → ℕ
-gain l j = (bit l j + bit l (j + 3)) % 2
+pub firsts-eight : (l : ℕ) → Firsts 8 (wordBits 10 l) l
+firsts-eight l k h = first-bit l k (omega arith)
 
--- the new bits of j steps stand behind what is left of the old ones, as long as L0 and L3 are old
-pub new-behind : (l : List ℕ) → length l ≡ 10 → (j : ℕ) → j ≤ 7 → stepsL j l ≡ drop j l ++ tabulate j (gain l)
-unfolding stepsL stepL tabulate gain p
-new-behind l n zero h = sym (append-nil l)
-new-behind l n (suc j) h =
-    let new : List ℕ = tabulate j (gain l) in
-    let at : (i : ℕ) → j + i < 10 → bit (drop j l ++ new) i ≡ bit l (j + i) =
-    λ i q. (let inside : i < length (drop j l) = simp length-drop (omega arith) in List·getD-append (drop j l) new 0 i inside ∙ getD-drop j l i 0) in
-    ap stepL (new-behind l n j (omega arith))
-    ∙ shift-moved j l new (p (bit (drop j l ++ new))) (omega arith)
-    ∙ ap (λ (v : ℕ). drop (suc j) l ++ (new ++ (v ∷ [])))
-    (ap₂ (λ (x y : ℕ). (x + y) % 2) (at 0 (omega arith) ∙ ap (bit l) (add-zero j)) (at 3 (omega arith)))
+-- a word's low digits are its first bits
+firsts-low : (r : List ℕ) (w word : ℕ) → Firsts w r word → Firsts w r (word % 2 ^ w)
+firsts-low r w word first k h = first k h ∙ sym (wordBit-mod word w k h)
 
--- so L's first bit in step k is bit k of its number
-pub first-bit : (n k : ℕ) → k ≤ 7 → bit (stepsL k (wordBits 10 n)) 0 ≡ wordBit n k
-first-bit n k h =
-    let l : List ℕ = wordBits 10 n in
-    let e : length l ≡ 10 = length-wordBits 10 n in
-    let inside : 0 < length (drop k l) = simp length-drop (omega arith) in
-    ap (λ (r : List ℕ). bit r 0) (new-behind l e k h)
-    ∙ List·getD-append (drop k l) (tabulate k (gain l)) 0 0 inside
-    ∙ getD-drop k l 0 0
-    ∙ ap (bit l) (add-zero k)
-    ∙ getD-wordBits 10 n k (omega arith)
+-- sixteen: the first eight bits of L, and of L eight steps on
+pub firsts-sixteen : (l next : ℕ) → wordBits 10 next ≡ stepsL 8 (wordBits 10 l) → Firsts 16 (wordBits 10 l) (next * 2 ^ 8 + l % 2 ^ 8)
+firsts-sixteen l next e =
+    let r : List ℕ = wordBits 10 l in
+    firsts-joined r 8 8 (l % 2 ^ 8) next (mod-lt l (pow-pos 8)) (firsts-low r 8 l (firsts-eight l))
+    (subst (λ (q : List ℕ). Firsts 8 q next) e (firsts-eight next))
 
 -- four steps
 pub four-steps : (n : ℕ) → n < 2 ^ 10 → wordBits 10 (bitXor n (n / 2 ^ 3) % 2 ^ 4 * 2 ^ 6 + n / 2 ^ 4) ≡ stepsL 4 (wordBits 10 n)
-unfolding gain
 four-steps n h =
-    let l : List ℕ = wordBits 10 n in
-    let m : ℕ = bitXor n (n / 2 ^ 3) % 2 ^ 4 in
-    let at : (j : ℕ) → j < 10 → bit l j ≡ wordBit n j = getD-wordBits 10 n in
-    let new : (j : ℕ) → j < 4 → gain l j ≡ wordBit m j =
-    λ j g. ap₂ (λ (x y : ℕ). (x + y) % 2) (at j (omega arith)) (at (j + 3) (omega arith) ∙ ap (wordBit n) (add-comm j 3) ∙ sym (wordBit-shr n 3 j))
-    ∙ sym (wordBit-mod (bitXor n (n / 2 ^ 3)) 4 j g ∙ wordBit-xor n (n / 2 ^ 3) j) in
-    sym (new-behind l (length-wordBits 10 n) 4 (omega arith)
-    ∙ ap (λ (r : List ℕ). drop 4 l ++ r) (tabulate-word m 4 (gain l) new)
-    ∙ move-wordBits 4 6 n m h)
-
--- the word of L's first bits in w steps
-abbrev pub Firsts : (w l word : ℕ) → Type 0
-Firsts w l word = (k : ℕ) → k < w → bit (stepsL k (wordBits 10 l)) 0 ≡ wordBit word k
-
-pub firsts-eight : (l : ℕ) → Firsts 8 l l
-firsts-eight l k h = first-bit l k (omega arith)
-
-pub below : (k n : ℕ) → (k < n) ⊎ (n ≤ k)
-below k zero = inr (omega arith)
-below zero (suc n) = inl (omega arith)
-below (suc k) (suc n) = ⊎-elim (λ h. inl (omega arith)) (λ h. inr (omega arith)) (below k n)
-
--- sixteen: the first eight bits of L, and of L eight steps on
-pub firsts-sixteen : (l next : ℕ) → wordBits 10 next ≡ stepsL 8 (wordBits 10 l) → Firsts 16 l (next * 2 ^ 8 + l % 2 ^ 8)
-firsts-sixteen l next e k h = ⊎-elim under over (below k 8)
-  where
-    under : k < 8 → bit (stepsL k (wordBits 10 l)) 0 ≡ wordBit (next * 2 ^ 8 + l % 2 ^ 8) k
-    under g =
-        first-bit l k (omega arith)
-        ∙ sym (sym (wordBit-mod (next * 2 ^ 8 + l % 2 ^ 8) 8 k g)
-        ∙ ap (λ (x : ℕ). wordBit x k) (low next 8 (mod-lt l (pow-pos 8)))
-        ∙ wordBit-mod l 8 k g)
-
-    over : 8 ≤ k → bit (stepsL k (wordBits 10 l)) 0 ≡ wordBit (next * 2 ^ 8 + l % 2 ^ 8) k
-    over g =
-        let j : ℕ = k - 8 in
-        let ek : 8 + j ≡ k = omega arith in
-        ap (λ (i : ℕ). bit (stepsL i (wordBits 10 l)) 0) (sym ek)
-        ∙ ap (λ (r : List ℕ). bit r 0) (stepsL-add 8 j (wordBits 10 l) ∙ ap (stepsL j) (sym e))
-        ∙ first-bit next j (omega arith)
-        ∙ ap (λ (x : ℕ). wordBit x j) (sym (high next 8 (mod-lt l (pow-pos 8))))
-        ∙ wordBit-shr (next * 2 ^ 8 + l % 2 ^ 8) 8 j
-        ∙ ap (wordBit (next * 2 ^ 8 + l % 2 ^ 8)) ek
-
--- ---- back
-
--- two steps lead from L so moved up to L
-pub two-back-steps : (l : ℕ) → stepsL 2 (wordBits 10 (l % 2 ^ 8 * 2 ^ 2 + bitXor (l / 2 ^ 8) (l / 2 ^ 1) % 2 ^ 2)) ≡ wordBits 10 l
-unfolding gain
-two-back-steps l =
-    let v : ℕ = bitXor (l / 2 ^ 8) (l / 2 ^ 1) % 2 ^ 2 in
-    let n : ℕ = l % 2 ^ 8 * 2 ^ 2 + v in
-    let small : v < 2 ^ 2 = mod-lt (bitXor (l / 2 ^ 8) (l / 2 ^ 1)) (pow-pos 2) in
     let r : List ℕ = wordBits 10 n in
-    let gained : (j : ℕ) → j < 2 → gain r j ≡ wordBit l (8 + j) =
-    λ j less.
-    (let near : bit r j ≡ (wordBit l (8 + j) + wordBit l (1 + j)) % 2 =
-    getD-wordBits 10 n j (omega arith)
-    ∙ low-bit (l % 2 ^ 8) 2 v j small less
-    ∙ wordBit-mod (bitXor (l / 2 ^ 8) (l / 2 ^ 1)) 2 j less
-    ∙ wordBit-xor (l / 2 ^ 8) (l / 2 ^ 1) j
-    ∙ ap₂ (λ (a b : ℕ). (a + b) % 2) (wordBit-shr l 8 j) (wordBit-shr l 1 j) in
-    let place : j + 3 - 2 ≡ 1 + j = omega arith in
-    let far : bit r (j + 3) ≡ wordBit l (1 + j) =
-    getD-wordBits 10 n (j + 3) (omega arith)
-    ∙ high-bit (l % 2 ^ 8) 2 v (j + 3) small (omega arith)
-    ∙ ap (wordBit (l % 2 ^ 8)) place
-    ∙ wordBit-mod l 8 (1 + j) (omega arith) in
-    let bound = wordBit-lt l (8 + j) in
-    omega arith) in
-    new-behind r (length-wordBits 10 n) 2 (omega arith) ∙ up-moved 10 l 8 2 v (gain r) refl small gained
+    let e : length r ≡ 10 = length-wordBits 10 n in
+    ten-firsts (stepsL 4 r) (bitXor n (n / 2 ^ 3) % 2 ^ 4 * 2 ^ 6 + n / 2 ^ 4) (length-stepsL 4 r e)
+    (firsts-further r 10 3 4 6 n (recurs r e) refl (omega arith) h (first-bit n))
+
+-- ---- forty bits
+
+-- bit k + 40 of the sequence is the sum of the bits k and k + 12
+recurs-forty : (r : List ℕ) → length r ≡ 10 → Recurs (sequence r) 40 12
+recurs-forty r e = doubled (sequence r) 20 6 (doubled (sequence r) 10 3 (recurs r e))
+
+-- the word of the first w bits, as a number of w digits
+abbrev pub Begins : ℕ → List ℕ → ℕ → Type 0
+Begins w r word = (word < 2 ^ w) × Firsts w r word
+
+-- eight bits more, of L after w steps
+eight-more : (r : List ℕ) (w word next : ℕ) → Begins w r word → wordBits 10 next ≡ stepsL w r → Begins (w + 8) r (word + next % 2 ^ 8 * 2 ^ w)
+eight-more r w word next known e =
+    subst (Begins (w + 8) r) (add-comm (next % 2 ^ 8 * 2 ^ w) word) (
+      up-lt next 8 w word (known .0),
+      firsts-joined r w 8 word (next % 2 ^ 8) (known .0) (known .1)
+          (subst (λ (q : List ℕ). Firsts 8 q (next % 2 ^ 8)) e (firsts-low (wordBits 10 next) 8 next (firsts-eight next))),
+    )
+
+pub eight-later : (r : List ℕ) (w l next : ℕ) → wordBits 10 l ≡ stepsL w r → wordBits 10 next ≡ stepsL 8 (wordBits 10 l) → wordBits 10 next ≡ stepsL (w + 8) r
+eight-later r w l next e e′ = e′ ∙ ap (stepsL 8) e ∙ sym (stepsL-add w 8 r)
+
+pub forty-bits : (l l8 l16 l24 l32 : ℕ) → wordBits 10 l8 ≡ stepsL 8 (wordBits 10 l) → wordBits 10 l16 ≡ stepsL 8 (wordBits 10 l8)
+    → wordBits 10 l24 ≡ stepsL 8 (wordBits 10 l16) → wordBits 10 l32 ≡ stepsL 8 (wordBits 10 l24)
+    → Begins 40 (wordBits 10 l) (l % 2 ^ 8 + l8 % 2 ^ 8 * 2 ^ 8 + l16 % 2 ^ 8 * 2 ^ 16 + l24 % 2 ^ 8 * 2 ^ 24 + l32 % 2 ^ 8 * 2 ^ 32)
+forty-bits l l8 l16 l24 l32 e8 f16 f24 f32 =
+    let r : List ℕ = wordBits 10 l in
+    let e16 : wordBits 10 l16 ≡ stepsL 16 r = eight-later r 8 l8 l16 e8 f16 in
+    let e24 : wordBits 10 l24 ≡ stepsL 24 r = eight-later r 16 l16 l24 e16 f24 in
+    let e32 : wordBits 10 l32 ≡ stepsL 32 r = eight-later r 24 l24 l32 e24 f32 in
+    let w8 : ℕ = l % 2 ^ 8 in
+    let w16 : ℕ = w8 + l8 % 2 ^ 8 * 2 ^ 8 in
+    let w24 : ℕ = w16 + l16 % 2 ^ 8 * 2 ^ 16 in
+    let w32 : ℕ = w24 + l24 % 2 ^ 8 * 2 ^ 24 in
+    let b8 : Begins 8 r w8 = (mod-lt l (pow-pos 8), firsts-low r 8 l (firsts-eight l)) in
+    let b16 : Begins 16 r w16 = eight-more r 8 w8 l8 b8 e8 in
+    let b24 : Begins 24 r w24 = eight-more r 16 w16 l16 b16 e16 in
+    let b32 : Begins 32 r w32 = eight-more r 24 w24 l24 b24 e24 in
+    eight-more r 32 w32 l32 b32 e32
+
+-- 24 steps
+pub forty-further : (l n bits : ℕ) → Begins 40 (stepsL n (wordBits 10 l)) bits
+    → Begins 40 (stepsL (n + 24) (wordBits 10 l)) (bitXor bits (bits / 2 ^ 12) % 2 ^ 24 * 2 ^ 16 + bits / 2 ^ 24)
+forty-further l n bits known =
+    let r : List ℕ = stepsL n (wordBits 10 l) in
+    let next : ℕ = bitXor bits (bits / 2 ^ 12) % 2 ^ 24 * 2 ^ 16 + bits / 2 ^ 24 in (
+      up-lt (bitXor bits (bits / 2 ^ 12)) 24 16 (bits / 2 ^ 24) (shr-lt 16 24 (known .0)),
+      subst (λ (q : List ℕ). Firsts 40 q next) (sym (stepsL-add n 24 (wordBits 10 l)))
+          (firsts-further r 40 12 24 16 bits (recurs-forty r (length-stepsL n (wordBits 10 l) (length-wordBits 10 l))) refl (omega arith) (known .0) (known .1)),
+    )
+
+-- the first ten are L
+pub ten-of-forty : (l n bits : ℕ) → Firsts 40 (stepsL n (wordBits 10 l)) bits → wordBits 10 (bits % 2 ^ 10) ≡ stepsL n (wordBits 10 l)
+ten-of-forty l n bits first =
+    let r : List ℕ = stepsL n (wordBits 10 l) in
+    ten-firsts r (bits % 2 ^ 10) (length-stepsL n (wordBits 10 l) (length-wordBits 10 l)) (firsts-low r 10 bits (λ k h. first k (omega arith)))

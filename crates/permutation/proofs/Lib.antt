@@ -10,12 +10,15 @@ pub mod Accepted
 pub mod Turn
 pub mod Sums
 pub mod WordTurns
+pub mod LSequence
 pub mod LStrides
+pub mod LBack
 pub mod Feeds
 pub mod TwoWords
 pub mod CellWords
 pub mod Widths
 pub mod MovedUp
-pub mod SpreadTaps
-pub mod StridesBack
+pub mod NearTaps
+pub mod Settled
+pub mod BackSteps
 pub mod TurnsBack

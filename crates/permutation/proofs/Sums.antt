@@ -1,19 +1,19 @@
--- Sums of bits in words: `&` and `^` at one bit, the bits of a register from a tap on, the parity of the ones under a mask, and a word
--- that is filled bit by bit. Assumes nothing.
+-- Sums of bits in words: `&` and `^` at one bit, the bits of a register from a tap on, the parity of the ones under a mask, a word that is
+-- filled bit by bit, and the sums of several steps. Assumes nothing.
 use mathlib.Core.Logic.{⊎-elim}
 use mathlib.Core.Path.{_≡_, sym, ap, ap₂, _∙_}
-use Prim.Native.Nat.{ℕ, zero, suc, _+_, _*_, _-_, _/_, _%_, _^_, _<_}
-use native.Mathlib.Nat.{add-comm, add-zero, add-mod, add-mul, mul-assoc, mod-lt, mod-eq-of-lt, not-suc-le-zero, eq-or-lt-of-le, le-of-suc-le-suc, pow-suc, mul-comm, zero-lt-suc}
-use native.Mathlib.Numerals.{add-one}
+use Prim.Native.Nat.{ℕ, zero, suc, _+_, _*_, _-_, _/_, _%_, _^_, _≤_, _<_}
+use native.Mathlib.Nat.{add-comm, add-zero, add-mod, mod-lt, mod-eq-of-lt, div-add-mod', div-one, div-eq-of-lt, sub-zero, lt-of-le-of-lt, lt-of-lt-of-le, not-suc-le-zero, eq-or-lt-of-le, le-of-suc-le-suc, pow-suc, mul-comm, zero-lt-suc}
 use native.Mathlib.Omega.{arith}
 use lib.Arith.{bin-ind, digits-lt}
-use lib.Bits.{bitAnd, bitXor, xor-zero-l, xor-shr, shifted-half}
-use lib.Count.{ones, ones-step}
-use lib.Pow.{pow-add, shl-shr, high, low}
+use lib.Bits.{bitAnd, bitXor, and-zero-r, and-block, xor-zero-l, xor-shr, shifted-half}
+use lib.Count.{ones, ones-step, ones-cat}
+use lib.Dec.{lit≤}
+use lib.Pow.{pow-pos, pow-mono, shl-lt, shr-le, shr-shr, high, low, split}
 use Rattle.quark.specs.Feedback.{sumAt}
 use Rattle.quark.specs.leaf.Word.{wordBit, placesFrom}
 use Rattle.quark.proofs.Word.{wordBit-and, wordBit-xor, wordBit-shr, wordBit-mod, low-xor}
-use Rattle.quark.proofs.Mask.{ones-under-masks}
+use Rattle.quark.proofs.Mask.{ones-under-mask, ones-under-masks}
 use Rattle.permutation.specs.leaf.Words.{maskSum, pack}
 
 -- ---- `&` and `^` under names that stay shut: those of `lib.Bits` unfold to a recursion that names its first number twice
@@ -81,6 +81,30 @@ pub parity-of-words : (hi lo maskHi maskLo : ℕ) → lo < 2 ^ 64 → maskLo < 2
 parity-of-words hi lo maskHi maskLo hl hm hk =
     ones-xor (bitAnd hi maskHi) (bitAnd lo maskLo) ∙ ap (λ (x : ℕ). x % 2) (ones-under-masks 64 64 hi lo maskHi maskLo hl hm hk)
 
+-- the ones under a mask that is moved up are those of the number moved down
+ones-moved : (n mask i : ℕ) → ones (bitAnd n (mask * 2 ^ i)) ≡ ones (bitAnd (n / 2 ^ i) mask)
+unfolding ones
+ones-moved n mask i =
+    let a : ℕ = bitAnd (n / 2 ^ i) mask in
+    ap₂ (λ (x y : ℕ). ones (bitAnd x y)) (sym (split n i)) (sym (add-zero (mask * 2 ^ i)))
+    ∙ ap ones (and-block i (n / 2 ^ i) mask (n % 2 ^ i) 0 (mod-lt n (pow-pos i)) (pow-pos i))
+    ∙ ap (λ (x : ℕ). ones (a * 2 ^ i + x)) (and-zero-r (n % 2 ^ i))
+    ∙ ones-cat i a 0 (pow-pos i)
+    ∙ add-zero (ones a)
+
+-- a mask of 112 bits stays within two words where it is moved up by at most 16
+pub mask-fits : (mask i : ℕ) → mask < 2 ^ 112 → i ≤ 16 → mask * 2 ^ i < 2 ^ 128
+mask-fits mask i h g = lt-of-lt-of-le (shl-lt 112 i h) (pow-mono {j = 128} (omega arith))
+
+-- so the sum of step i is the parity under the mask moved up by i
+pub maskSum-moved : (n mask i : ℕ) → mask < 2 ^ 112 → i ≤ 16 → sumAt (wordBit n) (placesFrom 128 0 (mask * 2 ^ i)) % 2 ≡ maskSum n mask i
+unfolding maskSum
+maskSum-moved n mask i h g =
+    ap (λ (x : ℕ). x % 2)
+    (sym (ones-under-mask 128 (mask * 2 ^ i) n (mask-fits mask i h g))
+    ∙ ones-moved n mask i
+    ∙ ones-under-mask 128 mask (n / 2 ^ i) (lt-of-lt-of-le h (lit≤ tt)))
+
 -- ---- a word that is filled bit by bit
 
 module _ (b : ℕ → ℕ) (h : (j : ℕ) → b j < 2) where
@@ -101,32 +125,48 @@ module _ (b : ℕ → ℕ) (h : (j : ℕ) → b j < 2) where
       before ih l =
           sym (wordBit-mod (b j * 2 ^ j + pack b j) j i l) ∙ ap (λ (x : ℕ). wordBit x i) (low (b j) j (pack-lt j)) ∙ ih l
 
+  -- the bits from i on are the bits above i, and bit i below them
+  pub pack-from : (w i : ℕ) → i < w → pack b w / 2 ^ (i + 1) * 2 + b i ≡ pack b w / 2 ^ i
+  unfolding wordBit
+  pack-from w i g =
+      ap₂ (λ (x y : ℕ). x * 2 + y) (sym (shr-shr (pack b w) i 1)) (sym (bit-pack w i g)) ∙ div-add-mod' (pack b w / 2 ^ i) 2
+
 pub maskSum-lt : (n mask j : ℕ) → maskSum n mask j < 2
 unfolding maskSum
 maskSum-lt n mask j = mod-lt (sumAt (wordBit (n / 2 ^ j)) (placesFrom 128 0 mask)) (zero-lt-suc 1)
 
--- a word whose j bits stand at its top takes bit j in at the top
-pub pack-enter : (b : ℕ → ℕ) (j e : ℕ) → pack b j * 2 ^ suc e / 2 + b j * 2 ^ (j + e) ≡ pack b (suc j) * 2 ^ e
-unfolding pack
-pack-enter b j e =
-    ap₂ (λ (x y : ℕ). x + y) (shifted-half (pack b j) e) (ap (λ (x : ℕ). b j * x) (pow-add 2 j e) ∙ sym (mul-assoc (b j) (2 ^ j) (2 ^ e)))
-    ∙ add-comm (pack b j * 2 ^ e) (b j * 2 ^ j * 2 ^ e)
-    ∙ sym (add-mul (b j * 2 ^ j) (pack b j) (2 ^ e))
+-- ---- the sums of w steps under a mask, last step first
 
--- one turn of filling a word of 64 bits from the top
-pub pack-turn : (b : ℕ → ℕ) (j word bit : ℕ) → j < 64 → word ≡ pack b j * 2 ^ (64 - j) → bit ≡ b j
-    → word / 2 + bit * 2 ^ 63 ≡ pack b (j + 1) * 2 ^ (64 - (j + 1))
-pack-turn b j word bit h ew eb =
-    let e : ℕ = 63 - j in
-    let e1 : 64 - j ≡ suc e = omega arith in
-    let e2 : _≡_ {A = ℕ} 63 (j + e) = omega arith in
-    let e3 : 64 - (j + 1) ≡ e = omega arith in
-    ap₂ (λ (x y : ℕ). x / 2 + y * 2 ^ 63) ew eb
-    ∙ ap₂ (λ (x y : ℕ). pack b j * 2 ^ x / 2 + b j * 2 ^ y) e1 e2
-    ∙ pack-enter b j e
-    ∙ ap₂ (λ (x y : ℕ). pack b x * 2 ^ y) (sym (add-one j)) (sym e3)
+-- when j steps are done, m is the mask moved up for the next one, and the bits are the word's last j
+abbrev pub Summed : (n mask w j m bits : ℕ) → Type 0
+Summed n mask w j m bits = (j < w → m ≡ mask * 2 ^ (w - suc j)) × (bits ≡ pack (maskSum n mask) w / 2 ^ (w - j))
 
--- a word that is filled, moved down to place 0
-pub pack-done : (b : ℕ → ℕ) (j w word : ℕ) → j ≡ w → word ≡ pack b j * 2 ^ (64 - j) → word / 2 ^ (64 - w) ≡ pack b w
-pack-done b j w word ej ew =
-    ap (λ (x : ℕ). x / 2 ^ (64 - w)) (ew ∙ ap (λ (i : ℕ). pack b i * 2 ^ (64 - i)) ej) ∙ shl-shr (pack b w) (64 - w)
+module _ (n mask w : ℕ) (narrow : mask < 2 ^ 112) (few : w ≤ 16) where
+  pub summed-none : (m : ℕ) → m ≡ mask * 2 ^ (w - 1) → Summed n mask w 0 m 0
+  summed-none m e = ((λ g. e), rw sub-zero (sym (div-eq-of-lt (pack-lt (maskSum n mask) (maskSum-lt n mask) w))))
+
+  -- the next step is step i
+  pub summed-more : (j m bits bit next : ℕ) → j < w → Summed n mask w j m bits → bit ≡ sumAt (wordBit n) (placesFrom 128 0 m) % 2 → next ≡ m / 2
+      → Summed n mask w (j + 1) next (bits * 2 + bit)
+  summed-more j m bits bit next g s eb en =
+      let i : ℕ = w - (j + 1) in
+      let e : w - j ≡ i + 1 = omega arith in
+      let at : m ≡ mask * 2 ^ i = s .0 g ∙ ap (λ (x : ℕ). mask * 2 ^ x) (omega arith) in (
+        (λ h.
+            let f : i ≡ suc (w - suc (j + 1)) = omega arith in
+            en ∙ ap (λ (x : ℕ). x / 2) (at ∙ ap (λ (x : ℕ). mask * 2 ^ x) f) ∙ shifted-half mask (w - suc (j + 1))),
+        ap₂ (λ (x y : ℕ). x * 2 + y) (s .1 ∙ ap (λ (x : ℕ). pack (maskSum n mask) w / 2 ^ x) e)
+            (eb ∙ ap (λ (x : ℕ). sumAt (wordBit n) (placesFrom 128 0 x) % 2) at ∙ maskSum-moved n mask i narrow (omega arith))
+            ∙ pack-from (maskSum n mask) (maskSum-lt n mask) w i (omega arith),
+      )
+
+  pub summed-lt : (j m bits : ℕ) → Summed n mask w j m bits → bits < 2 ^ 16
+  summed-lt j m bits s =
+      let word : ℕ = pack (maskSum n mask) w in
+      rw (s .1) (lt-of-le-of-lt (shr-le word (w - j)) (lt-of-lt-of-le (pack-lt (maskSum n mask) (maskSum-lt n mask) w) (pow-mono few)))
+
+  pub summed-all : (j m bits : ℕ) → j ≡ w → Summed n mask w j m bits → bits ≡ pack (maskSum n mask) w
+  summed-all j m bits e s =
+      let word : ℕ = pack (maskSum n mask) w in
+      let z : w - j ≡ 0 = omega arith in
+      s .1 ∙ ap (λ (x : ℕ). word / 2 ^ x) z ∙ div-one word

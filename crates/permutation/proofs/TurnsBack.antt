@@ -1,4 +1,4 @@
--- Turns undone: strides add up, and the words that were loaded and taken back are the definition's inverse in the cells. Assumes nothing.
+-- Turns undone: they add up, and the words that were loaded and taken back are the definition's inverse in the cells. Assumes nothing.
 use mathlib.Core.List.{List, _++_}
 use mathlib.Core.Logic.{⊎-elim}
 use mathlib.Core.Path.{_≡_, refl, sym, ap, _∙_, subst}
@@ -21,10 +21,6 @@ use Rattle.permutation.specs.leaf.Words.{value, written, Width, wordRegi
 use Rattle.permutation.proofs.CellWords.{loaded-words, stored-words}
 use Rattle.permutation.proofs.SerialSteps.{wide-wordBits}
 
--- a turn is whole strides
-pub whole-strides : (w : ℕ) → Width w → (w % 4 ≡ 0) × (w ≤ 16)
-whole-strides w = ⊎-elim (λ e. omega arith) (λ e. omega arith)
-
 -- steps in whole turns are whole eights, for L
 pub whole-eights : (w n : ℕ) → Width w → n % w ≡ 0 → n / 8 * 8 ≡ n
 whole-eights w n = ⊎-elim eight sixteen
@@ -39,13 +35,13 @@ whole-eights w n = ⊎-elim eight sixteen
         let z16 : n % 16 ≡ 0 = subst (λ (v : ℕ). n % v ≡ 0) e z in
         omega arith
 
-pub no-stride : (T : Taps) (x y : Register) (l : ℕ) → Fitting T x y l → Preceding T 0 x y l (record { x = x; y = y; l = l })
+pub no-turn-back : (T : Taps) (x y : Register) (l : ℕ) → Fitting T x y l → Preceding T 0 x y l (record { x = x; y = y; l = l })
 unfolding steps
-no-stride T x y l fits = record { fitting = fits; redone = refl }
+no-turn-back T x y l fits = record { fitting = fits; redone = refl }
 
-pub one-stride-more : (T : Taps) (n w : ℕ) (x y : Register) (l : ℕ) (t u : State) → Preceding T n x y l t → Preceding T w (t .x) (t .y) (t .l) u
+pub one-turn-back-more : (T : Taps) (n w : ℕ) (x y : Register) (l : ℕ) (t u : State) → Preceding T n x y l t → Preceding T w (t .x) (t .y) (t .l) u
     → Preceding T (n + w) x y l u
-one-stride-more T n w x y l t u a b =
+one-turn-back-more T n w x y l t u a b =
     let s = wordRegisters T (value (u .x)) (value (u .y)) (u .l) in
     record {
       fitting = b .fitting;

@@ -1,7 +1,7 @@
 -- A number of two words of W digits, hi * 2 ^ W + lo: seen from a place on, and moved down with new digits behind. Assumes nothing.
 use mathlib.Core.Path.{_≡_, sym, ap, ap₂, _∙_, subst}
 use Prim.Native.Nat.{ℕ, zero, _+_, _-_, _*_, _/_, _%_, _^_, _≤_, _<_}
-use native.Mathlib.Nat.{mul-assoc, add-mul, add-assoc, mul-mod-left, mod-eq-of-lt, add-zero, add-comm, mul-add-div-right, div-one, lt-of-le-of-lt, lt-of-lt-of-le}
+use native.Mathlib.Nat.{mul-assoc, add-mul, add-assoc, mul-mod-left, mod-eq-of-lt, add-zero, add-comm, mul-add-div-right, mul-add-mod-self-right, mul-right-comm, div-one, lt-of-le-of-lt, lt-of-lt-of-le}
 use native.Mathlib.Omega.{arith}
 use lib.Pow.{pow-pos, pow-add, pow-mono, shr-lt, shl-shr, shl-exact, shr-shr, shr-le, mod-pow-add, mod-mod-pow, high, low, split}
 use lib.Bits.{bitOr, or-shifted-r}
@@ -96,6 +96,19 @@ push-high W hi lo w p new g t hl hn h =
     ∙ ap₂ (λ (y z : ℕ). y + z) (mul-assoc new (2 ^ q) (2 ^ W) ∙ ap (λ (y : ℕ). new * y) (sym (pow-add 2 q W) ∙ ap (λ (y : ℕ). 2 ^ y) e)) (split m W)
 
 -- ---- moved up
+
+-- both words moved up by n make the number moved up by n, where nothing drops out
+pub words-shl : (W n hi lo : ℕ) → n ≤ W → (hi * 2 ^ W + lo) * 2 ^ n < 2 ^ (W + W)
+    → (hi * 2 ^ W + lo) / 2 ^ (W - n) % 2 ^ W * 2 ^ W + lo * 2 ^ n % 2 ^ W ≡ (hi * 2 ^ W + lo) * 2 ^ n
+words-shl W n hi lo g h =
+    let v : ℕ = hi * 2 ^ W + lo in
+    let e : n + (W - n) ≡ W = omega arith in
+    let above : v / 2 ^ (W - n) ≡ v * 2 ^ n / 2 ^ W =
+    ap (λ (x : ℕ). x / 2 ^ (W - n)) (sym (shl-shr v n)) ∙ shr-shr (v * 2 ^ n) n (W - n) ∙ ap (λ (x : ℕ). v * 2 ^ n / 2 ^ x) e in
+    let below : lo * 2 ^ n % 2 ^ W ≡ v * 2 ^ n % 2 ^ W =
+    sym (ap (λ (x : ℕ). x % 2 ^ W) (add-mul (hi * 2 ^ W) lo (2 ^ n) ∙ ap (λ (x : ℕ). x + lo * 2 ^ n) (mul-right-comm hi (2 ^ W) (2 ^ n)))
+    ∙ mul-add-mod-self-right (hi * 2 ^ n) (2 ^ W) (lo * 2 ^ n)) in
+    ap₂ (λ (x y : ℕ). x * 2 ^ W + y) (ap (λ (x : ℕ). x % 2 ^ W) above ∙ mod-eq-of-lt (shr-lt W W h)) below ∙ split (v * 2 ^ n) W
 
 -- a number moved up by w, with w new digits in front; its q digits of the high word are those below place p. The high word is moved up and
 -- down again by e, so that what is above falls out.

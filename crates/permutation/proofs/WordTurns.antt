@@ -27,7 +27,7 @@ use Rattle.permutation.specs.leaf.Words.{value, written, inStep, product
 use Rattle.permutation.proofs.Sums.{xor-sum, maskSum-lt, bit-pack}
 use Rattle.permutation.proofs.Feeds.{feedback-split}
 use Rattle.permutation.proofs.CellWords.{loaded-words, stored-words}
-use Rattle.permutation.proofs.LStrides.{Firsts}
+use Rattle.permutation.proofs.LSequence.{Firsts}
 use Rattle.permutation.proofs.MovedUp.{tabulate-word}
 
 pub width-fits : (w : ℕ) → Width w → (0 < w) × (w ≤ 16)
@@ -64,7 +64,7 @@ grown-moved half n rest mask p w b e less new =
 -- ---- both registers
 
 module _ (T : Taps) (lawful : Lawful T) (w : ℕ) (reach : Reach T w) (p : ℕ) (e : w + p ≡ T .half) (small : w ≤ 16) (x y : Register) (l word : ℕ)
-    (fits : Fitting T x y l) (firsts : Firsts w l word) (rest : Gains) (rests : (k : ℕ) → k < 64 → Rest T x y word rest k) (fMask gMask : ℕ)
+    (fits : Fitting T x y l) (firsts : Firsts w (wordBits 10 l) word) (rest : Gains) (rests : (k : ℕ) → k < 64 → Rest T x y word rest k) (fMask gMask : ℕ)
     (fPlaces : placesFrom 128 0 fMask ≡ linearTaps (T .fTaps)) (gPlaces : placesFrom 128 0 gMask ≡ linearTaps (exchange (T .gTaps))) where
   s : Registers
   s = wordRegisters T (value x) (value y) l

@@ -2,13 +2,14 @@
 // and g are counted under a mask, step by step. The products, and the bits that h adds by themselves, are `&` and `^` of the register's
 // words from each tap on. The taps are literals where they are used: so they become shifts by constants.
 ghost use mathlib.Core.Path.{_≡_};
-ghost use Prim.Native.Nat.{ℕ, _+_, _*_, _/_, _%_, _^_, _<_};
+ghost use Prim.Native.Nat.{ℕ, _+_, _%_, _^_, _≤_, _<_};
 ghost use Rattle.quark.specs.Feedback.{sumAt, h};
 ghost use Rattle.quark.specs.Instance.{U, D, S};
 ghost use Rattle.quark.specs.leaf.Word.{wordBit, placesFrom};
 ghost use Rattle.permutation.specs.leaf.Words.{value, inStep, products, mixes, ProductBits, Rest, maskSum, pack};
 use crate::registers::Register;
 use crate::registers::down;
+use crate::registers::up;
 use crate::registers::window;
 
 // A word for X and a word for Y.
@@ -232,33 +233,30 @@ fn parity(r: Register, mask: Register) -> u64
     (u64::count_ones((r.hi & mask.hi) ^ (r.lo & mask.lo)) % 2) as u64
 }
 
-// A bit comes in at the top of a word, and the word moves down by one.
-fn enter(word: u64, bit: u64) -> u64
-    requires { ⌜ bit < 2 ⌝ }
-    ensures { λ r. ⌜ r ≡ word / 2 + bit * 2 ^ 63 ⌝ }
+// The sums of the linear taps, as a mask over a register, for `width` steps. The register stays and the mask moves down, last step first:
+// the masks are constants, so that the compiler knows them at each step.
+fn sums(r: Register, mask: Register, width: u32) -> u64
+    requires { ⌜ (0 < width) × (width ≤ 16) × (value mask < 2 ^ 112) ⌝ }
+    ensures { λ w. ⌜ w ≡ pack (maskSum (value r) (value mask)) width ⌝ }
 {
-    word / 2 + bit * 0x8000_0000_0000_0000
+    let mut m = up(mask, width - 1);
+    let mut bits = 0u64;
+    let mut j = 0u32;
+    while j < width {
+        bits = bits * 2 + parity(r, m);
+        m = down(m);
+        j += 1;
+    }
+    bits
 }
 
 // The sums of the linear taps of f and of g, as masks over X and Y, for `width` steps.
 pub fn linear(x: Register, y: Register, f: Register, g: Register, width: u32) -> Gains
-    requires { ⌜ (0 < width) × (width < 64) ⌝ }
+    requires { ⌜ (0 < width) × (width ≤ 16) × (value f < 2 ^ 112) × (value g < 2 ^ 112) ⌝ }
     ensures { λ w. ⌜ (w .x ≡ pack (maskSum (value x) (value f)) width) × (w .y ≡ pack (maskSum (value y) (value g)) width) ⌝ }
 {
-    let mut xs = x;
-    let mut ys = y;
-    let mut f_sums = 0u64;
-    let mut g_sums = 0u64;
-    let mut j = 0u32;
-    while j < width {
-        f_sums = enter(f_sums, parity(xs, f));
-        g_sums = enter(g_sums, parity(ys, g));
-        xs = down(xs);
-        ys = down(ys);
-        j += 1;
-    }
     Gains {
-        x: f_sums >> (64 - width),
-        y: g_sums >> (64 - width),
+        x: sums(x, f, width),
+        y: sums(y, g, width),
     }
 }

@@ -1,5 +1,5 @@
 // The linear taps of f and g as masks over X and Y (document 01, "Taps and feedback"): the places of a mask's ones are the taps.
-ghost use Rattle.quark.specs.Instance.{U, D, S, instanceOf};
+ghost use Rattle.quark.specs.Instance.{U, D, S};
 ghost use Rattle.permutation.specs.leaf.Words.{Masking};
 use crate::registers::Register;
 
@@ -54,16 +54,5 @@ pub fn masks_s() -> Masks
             hi: 0x21_1000_8022,
             lo: 0x100_0020_4000_2001,
         },
-    }
-}
-
-// The masks of an instance.
-pub fn masks_of(instance: u32) -> Masks
-    ensures { λ m. ⌜ Masking (instanceOf instance .taps) m ⌝ }
-{
-    if instance == 1 {
-        masks_u()
-    } else {
-        if instance == 2 { masks_d() } else { masks_s() }
     }
 }

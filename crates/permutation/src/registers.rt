@@ -101,6 +101,17 @@ pub fn down(r: Register) -> Register
     }
 }
 
+// A register moved up by n, where nothing drops out.
+pub fn up(r: Register, n: u32) -> Register
+    requires { ⌜ (n < 64) × (value r * 2 ^ n < 2 ^ 128) ⌝ }
+    ensures { λ d. ⌜ value d ≡ value r * 2 ^ n ⌝ }
+{
+    Register {
+        hi: window(r, 64 - n),
+        lo: r.lo << n,
+    }
+}
+
 // A register of place + width bits moved down by width, with the width bits of `new` behind.
 pub fn push(r: Register, new: u64, place: u32, width: u32) -> Register
     requires { ⌜ (value r < 2 ^ (width + place)) × (new < 2 ^ width) × (0 < place) × (0 < width) × (width < 64) × (place < 128) × (width + place ≤ 128) ⌝ }

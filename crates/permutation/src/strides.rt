@@ -1,9 +1,11 @@
 // L in strides. Its new bit is L0 + L3 of ten bits, so at most seven steps can be taken from the old bits: eight are two strides of four.
-// L is a number below 1024 with bit i at weight 2 ^ i.
+// L is a number below 1024 with bit i at weight 2 ^ i. Its sequence is its first bit after each number of steps: L is ten bits of it in a
+// row. In it bit k + 10 is the sum of the bits k and k + 3, and so bit k + 40 is the sum of the bits k and k + 12.
 ghost use mathlib.Core.Path.{_≡_};
-ghost use Prim.Native.Nat.{_*_, _<_};
+ghost use Prim.Native.Nat.{ℕ, _*_, _^_, _<_};
+ghost use Rattle.quark.specs.Bytes.{bit};
 ghost use Rattle.quark.specs.Step.{stepsL};
-ghost use Rattle.quark.specs.leaf.Word.{wordBits};
+ghost use Rattle.quark.specs.leaf.Word.{wordBit, wordBits};
 
 // Four steps of L from its old bits.
 fn four(l: u64) -> u64
@@ -21,24 +23,48 @@ pub fn eight(l: u64) -> u64
     four(four(l))
 }
 
-// Two steps of L undone: L3 of both is among the bits that are left.
-fn two_back(l: u64) -> u64
+// Eight steps of L undone. Bit i of the new low byte n is the sum of L's bit i + 2 and of the bit three places on, which is L's bit i - 5
+// or, for i below 5, bit i + 3 of n. With m for what L gives, n is m ^ n / 8 and so m ^ m / 8 ^ m / 64.
+pub fn eight_back(l: u64) -> u64
     requires { ⌜ l < 1024 ⌝ }
-    ensures { λ r. ⌜ (r < 1024) × (stepsL 2 (wordBits 10 r) ≡ wordBits 10 l) ⌝ }
+    ensures { λ r. ⌜ (r < 1024) × (stepsL 8 (wordBits 10 r) ≡ wordBits 10 l) ⌝ }
 {
-    l % 256 * 4 + ((l / 256) ^ (l / 2)) % 4
+    let m = ((l / 4) ^ (l * 32)) % 256;
+    l % 4 * 256 + (m ^ m / 8 ^ m / 64)
 }
 
-// Four steps of L undone.
-pub fn four_back(l: u64) -> u64
+// The first forty bits of L's sequence.
+fn forty(l: u64) -> u64
     requires { ⌜ l < 1024 ⌝ }
-    ensures { λ r. ⌜ (r < 1024) × (stepsL 4 (wordBits 10 r) ≡ wordBits 10 l) ⌝ }
+    ensures { λ r. ⌜ (r < 2 ^ 40) × ((k : ℕ) → k < 40 → bit (stepsL k (wordBits 10 l)) 0 ≡ wordBit r k) ⌝ }
 {
-    two_back(two_back(l))
+    let l8 = eight(l);
+    let l16 = eight(l8);
+    let l24 = eight(l16);
+    let l32 = eight(l24);
+    l % 256
+        + l8 % 256 * 0x100
+        + l16 % 256 * 0x1_0000
+        + l24 % 256 * 0x100_0000
+        + l32 % 256 * 0x1_0000_0000
 }
 
-// So many times eight steps of L.
-pub fn ahead(l: u64, count: u32) -> u64
+// So many times 24 steps of L, on forty bits of its sequence.
+fn far(l: u64, count: u32) -> u64
+    requires { ⌜ l < 1024 ⌝ }
+    ensures { λ r. ⌜ (r < 1024) × (wordBits 10 r ≡ stepsL (count * 24) (wordBits 10 l)) ⌝ }
+{
+    let mut bits = forty(l);
+    let mut i = 0u32;
+    while i < count {
+        bits = (bits ^ bits / 0x1000) % 0x100_0000 * 0x1_0000 + bits / 0x100_0000;
+        i += 1;
+    }
+    bits % 1024
+}
+
+// So many times eight steps of L, one after another.
+fn eights(l: u64, count: u32) -> u64
     requires { ⌜ l < 1024 ⌝ }
     ensures { λ r. ⌜ (r < 1024) × (wordBits 10 r ≡ stepsL (count * 8) (wordBits 10 l)) ⌝ }
 {
@@ -49,4 +75,12 @@ pub fn ahead(l: u64, count: u32) -> u64
         i += 1;
     }
     now
+}
+
+// So many times eight steps of L.
+pub fn ahead(l: u64, count: u32) -> u64
+    requires { ⌜ l < 1024 ⌝ }
+    ensures { λ r. ⌜ (r < 1024) × (wordBits 10 r ≡ stepsL (count * 8) (wordBits 10 l)) ⌝ }
+{
+    eights(far(l, count / 3), count % 3)
 }

@@ -30,7 +30,7 @@ pub struct State {
 }
 
 // The lowest 8 or 16 bits of a word.
-fn low_bits(word: u64, width: u32) -> u64
+pub fn low_bits(word: u64, width: u32) -> u64
     requires { ⌜ Width width ⌝ }
     ensures { λ r. ⌜ r ≡ word % 2 ^ width ⌝ }
 {
@@ -48,7 +48,8 @@ fn turned(
     width: u32,
     l: u64,
 ) -> State
-    requires { ⌜ Width width × (0 < place) × (width + place ≤ 128) × (value x < 2 ^ (width + place)) × (value y < 2 ^ (width + place)) ⌝ }
+    requires { ⌜ Width width × (0 < place) × (width + place ≤ 128) × (value x < 2 ^ (width + place)) × (value y < 2 ^ (width + place))
+        × (value f < 2 ^ 112) × (value g < 2 ^ 112) ⌝ }
     ensures { λ s. ⌜ (value (s .x) ≡ grown (value x) (rest .x) (value f) place width) × (value (s .y) ≡ grown (value y) (rest .y) (value g) place width)
         × (s .l ≡ l) ⌝ }
 {

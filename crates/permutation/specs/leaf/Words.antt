@@ -3,16 +3,18 @@
 use mathlib.Core.List.{List, [], _∷_, _++_}
 use mathlib.Core.Logic.{_⊎_}
 use mathlib.Core.Path.{_≡_}
-use Prim.Native.Nat.{ℕ, zero, suc, _+_, _*_, _/_, _%_, _^_, _<_}
+use Prim.Native.Nat.{ℕ, zero, suc, _+_, _*_, _/_, _%_, _^_, _<_, _≤_}
 use lib.Bits.{bitXor}
 use lib.ListN.{getD, take, drop}
-use Rattle.quark.specs.Feedback.{Taps, exchange, f, g, sumAt, h}
+use Rattle.quark.specs.Feedback.{Taps, exchange, sumAt, h}
 use Rattle.quark.specs.Step.{Registers, steps}
 use Rattle.quark.specs.leaf.Word.{wordBit, wordBits, placesFrom}
 use Rattle.permutation.specs.declared.registers.Register.{Register}
 use Rattle.permutation.specs.declared.feedback.Gains.{Gains}
 use Rattle.permutation.specs.declared.masks.Masks.{Masks}
 use Rattle.permutation.specs.declared.words.State.{State}
+use Rattle.permutation.specs.declared.words_back.Parts.{Parts}
+use Rattle.permutation.specs.declared.words_back.Near.{Near}
 
 -- the number that a register is
 abbrev pub value : Register → ℕ
@@ -52,20 +54,67 @@ unfoldable pub mixes : (l y3 x25 x46 x55 y59 : ℕ) → ℕ
 mixes l y3 x25 x46 x55 y59 =
     l + y3 * x55 + x46 * x55 + x55 * y59 + y3 * x25 * x46 + y3 * x46 * x55 + y3 * x46 * y59 + l * x25 * x46 * y59 + l * x25
 
--- masks whose places are the linear taps of f and of g
+-- by how much f's sum changes with the bit at a1, but for that bit itself
+unfoldable pub gSlope : (a3 a4 a5 a6 a8 a12 : ℕ) → ℕ
+gSlope a3 a4 a5 a6 a8 a12 = a3 + a5 * a8 * a12 + a3 * a4 * a5 * a6
+
+-- the same of a register's bits
+unfoldable pub gSlopeAt : List ℕ → (ℕ → ℕ) → ℕ
+gSlopeAt taps Y =
+    let a : ℕ → ℕ = λ k. Y (getD taps k 0) in
+    gSlope (a 3) (a 4) (a 5) (a 6) (a 8) (a 12)
+
+-- by how much h changes with the bit at its low tap in Y
+unfoldable pub hSlope : (x25 x46 x55 y59 : ℕ) → ℕ
+hSlope x25 x46 x55 y59 = x55 + x25 * x46 + x46 * x55 + x46 * y59
+
+-- masks whose places are the linear taps of f and of g; 16 bits of the two words are left to move a mask up
 pub record Masking (T : Taps) (m : Masks) : Type 0 where
   pub fPlaces : placesFrom 128 0 (value (m .f)) ≡ linearTaps (T .fTaps)
   pub gPlaces : placesFrom 128 0 (value (m .g)) ≡ linearTaps (exchange (T .gTaps))
+  pub fNarrow : value (m .f) < 2 ^ 112
+  pub gNarrow : value (m .g) < 2 ^ 112
 
 -- the products of f in X and of g in Y in step k
 pub record ProductBits (T : Taps) (x y : Register) (w : Gains) (k : ℕ) : Type 0 where
   pub inX : wordBit (w .x) k ≡ productsAt (T .fTaps) (inStep k x) % 2
   pub inY : wordBit (w .y) k ≡ productsAt (exchange (T .gTaps)) (inStep k y) % 2
 
--- f of X and g of Y in step k
-pub record Fed (T : Taps) (x y : Register) (w : Gains) (k : ℕ) : Type 0 where
-  pub ofX : wordBit (w .x) k ≡ f T (inStep k x)
-  pub ofY : wordBit (w .y) k ≡ g T (inStep k y)
+-- the parts of a turn back in step k
+pub record PartBits (T : Taps) (x y : Register) (l : ℕ) (p : Parts) (k : ℕ) : Type 0 where
+  pub ofF : wordBit (p .f) k ≡ productsAt (T .fTaps) (inStep k x) % 2
+  pub ofG : wordBit (p .g) k ≡ productsAt (exchange (T .gTaps)) (inStep k y) % 2
+  pub ofH : wordBit (p .h) k ≡ h T (inStep k x) (inStep k y) (λ i. wordBit l k)
+  pub slopeG : wordBit (p .gslope) k ≡ gSlopeAt (exchange (T .gTaps)) (inStep k y) % 2
+  pub slopeH : wordBit (p .hslope) k ≡ hSlope (inStep k x (T .xLow)) (inStep k x (T .xMid)) (inStep k x (T .xHigh)) (inStep k y (T .yHigh)) % 2
+
+-- what is known of the bits of X and Y before step k: what X and Y gained and the known bits of f, g and h, added
+abbrev pub KnownX : (x y : Register) → Parts → Gains → (place : ℕ) → Gains → ℕ → Type 0
+KnownX x y p sums place r k =
+    wordBit (r .x) k
+    ≡ (wordBit (value x) (place + k) + wordBit (p .f) k + wordBit (sums .x) k + (wordBit (value y) (place + k) + wordBit (p .g) k + wordBit (sums .y) k)) % 2
+
+abbrev pub KnownY : (y : Register) → Parts → Gains → (place : ℕ) → Gains → ℕ → Type 0
+KnownY y p sums place r k = wordBit (r .y) k ≡ (wordBit (value y) (place + k) + wordBit (p .g) k + wordBit (sums .y) k + wordBit (p .h) k) % 2
+
+-- near taps of a turn back of w steps: what g reads of the bits that are found, nothing but X1 reads again
+pub record Settling (near : Near) (w : ℕ) : Type 0 where
+  pub first : 0 < near .y
+  pub ordered : near .y ≤ near .h
+  pub inside : (near .x < 64) × (near .h < 64) × (near .g < 64) × (w < 64)
+  pub pastX : w ≤ near .g + near .x
+  pub pastY : w ≤ near .g + near .y
+  pub pastG : w ≤ near .g + near .g
+
+-- the bit of X before step k, and the bit of Y: what is known of it, and what g and h read of the bits that are found
+abbrev pub SolvedX : (known : Gains) → Parts → Near → (new : Gains) → ℕ → Type 0
+SolvedX known p near new k = wordBit (new .x) k ≡ (wordBit (known .x) k + wordBit (new .y) (k + near .g) * (1 + wordBit (p .gslope) k)) % 2
+
+abbrev pub SolvedY : (known : Gains) → Parts → Near → (new : Gains) → ℕ → Type 0
+SolvedY known p near new k =
+    wordBit (new .y) k
+    ≡ (wordBit (known .y) k + wordBit (new .y) (k + near .g) * (1 + wordBit (p .gslope) k) + wordBit (new .x) (k + 1) + wordBit (new .x) (k + near .x)
+    + wordBit (new .y) (k + near .y) + wordBit (new .y) (k + near .h) * wordBit (p .hslope) k) % 2
 
 -- what X and Y gain in step k, but for the linear taps of f and g; bit k of l is L's first bit in that step
 pub record Rest (T : Taps) (x y : Register) (l : ℕ) (w : Gains) (k : ℕ) : Type 0 where

@@ -90,6 +90,11 @@ fn push(r: Register, new: u64, place: u32, width: u32) -> Register {
     }
 }
 
+#[inline(always)]
+fn up(r: Register, n: u32) -> Register {
+    Register { hi: window(r, 64 - n), lo: r.lo << n }
+}
+
 /// The mirror of `push`: moved up by `width`, with the bits of `new` in front, and no more than width + place bits.
 #[inline(always)]
 fn pull(r: Register, new: u64, place: u32, width: u32) -> Register {
@@ -110,17 +115,26 @@ fn eight(l: u64) -> u64 {
 }
 
 #[inline(always)]
-fn two_back(l: u64) -> u64 {
-    l % 256 * 4 + ((l / 256) ^ (l / 2)) % 4
+fn eight_back(l: u64) -> u64 {
+    let m = ((l / 4) ^ (l * 32)) % 256;
+    l % 4 * 256 + (m ^ (m / 8) ^ (m / 64))
 }
 
-#[inline(always)]
-fn four_back(l: u64) -> u64 {
-    two_back(two_back(l))
+fn forty(l: u64) -> u64 {
+    let l8 = eight(l);
+    let l16 = eight(l8);
+    let l24 = eight(l16);
+    let l32 = eight(l24);
+    l % 256 + l8 % 256 * 0x100 + l16 % 256 * 0x1_0000 + l24 % 256 * 0x100_0000 + l32 % 256 * 0x1_0000_0000
+}
+
+fn far(l: u64, count: u32) -> u64 {
+    let step = |bits, _| (bits ^ (bits / 0x1000)) % 0x100_0000 * 0x1_0000 + bits / 0x100_0000;
+    (0..count).fold(forty(l), step) % 1024
 }
 
 fn ahead(l: u64, count: u32) -> u64 {
-    (0..count).fold(l, |now, _| eight(now))
+    (0..count % 3).fold(far(l, count / 3), |now, _| eight(now))
 }
 
 // f, g and h for all steps of a turn: bit k of a word is the bit of step k.
@@ -218,22 +232,21 @@ fn parity(r: Register, mask: Register) -> u64 {
     u64::from(((r.hi & mask.hi) ^ (r.lo & mask.lo)).count_ones() % 2)
 }
 
+/// The sums of the linear taps under a mask for `width` steps: the mask moves down, last step first.
 #[inline(always)]
-fn enter(word: u64, bit: u64) -> u64 {
-    word / 2 + bit * 0x8000_0000_0000_0000
+fn sums(r: Register, mask: Register, width: u32) -> u64 {
+    let mut m = up(mask, width - 1);
+    let mut bits = 0;
+    for _ in 0..width {
+        bits = bits * 2 + parity(r, m);
+        m = down(m);
+    }
+    bits
 }
 
-/// The sums of the linear taps of f and of g for `width` steps.
 #[inline(always)]
 fn linear(x: Register, y: Register, f: Register, g: Register, width: u32) -> Gains {
-    let (mut xs, mut ys, mut f_sums, mut g_sums) = (x, y, 0, 0);
-    for _ in 0..width {
-        f_sums = enter(f_sums, parity(xs, f));
-        g_sums = enter(g_sums, parity(ys, g));
-        xs = down(xs);
-        ys = down(ys);
-    }
-    Gains { x: f_sums >> (64 - width), y: g_sums >> (64 - width) }
+    Gains { x: sums(x, f, width), y: sums(y, g, width) }
 }
 
 // Turns.
@@ -313,75 +326,132 @@ fn run(bits: &mut [u8; 256], instance: u32, width: u32, l: u32, count: u32) {
     save(s.y, bits, half, half);
 }
 
-// Steps undone, in strides of four.
+// Steps undone: all bits of a turn are found together.
+
+#[derive(Clone, Copy)]
+struct Parts {
+    f: u64,
+    g: u64,
+    h: u64,
+    gslope: u64,
+    hslope: u64,
+}
+
+#[derive(Clone, Copy)]
+struct Near {
+    x: u32,
+    y: u32,
+    h: u32,
+    g: u32,
+}
 
 #[inline(always)]
-fn products_of(x: Register, y: Register, instance: u32) -> Gains {
-    match instance {
-        1 => products_u(x, y),
-        2 => products_d(x, y),
-        _ => products_s(x, y),
+fn g_slope(y: Register, a3: u32, a4: u32, a5: u32, a6: u32, a8: u32, a12: u32) -> u64 {
+    let (b3, b5) = (window(y, a3), window(y, a5));
+    b3 ^ (b5 & window(y, a8) & window(y, a12)) ^ (b3 & window(y, a4) & b5 & window(y, a6))
+}
+
+#[inline(always)]
+fn h_slope(x: Register, y: Register, x_low: u32, x_mid: u32, x_high: u32, y_high: u32) -> u64 {
+    let (high, mid) = (window(x, x_high), window(x, x_mid));
+    high ^ (window(x, x_low) & mid) ^ (mid & high) ^ (mid & window(y, y_high))
+}
+
+#[inline(always)]
+fn parts(products: Gains, h: u64, gslope: u64, hslope: u64) -> Parts {
+    Parts { f: products.x, g: products.y, h, gslope, hslope }
+}
+
+#[inline(always)]
+fn parts_u(x: Register, y: Register, l: u64) -> Parts {
+    parts(products_u(x, y), h_u(x, y, l), g_slope(y, 15, 20, 30, 35, 42, 58), h_slope(x, y, 25, 46, 55, 59))
+}
+
+#[inline(always)]
+fn parts_d(x: Register, y: Register, l: u64) -> Parts {
+    parts(products_d(x, y), h_d(x, y, l), g_slope(y, 19, 25, 38, 44, 54, 78), h_slope(x, y, 35, 57, 68, 79))
+}
+
+#[inline(always)]
+fn parts_s(x: Register, y: Register, l: u64) -> Parts {
+    parts(products_s(x, y), h_s(x, y, l), g_slope(y, 28, 37, 56, 65, 79, 109), h_slope(x, y, 47, 72, 100, 111))
+}
+
+/// The bits that are found, but for what f, g and h read of them.
+#[inline(always)]
+fn known(x: Register, y: Register, parts: Parts, sums: Gains, place: u32, width: u32) -> Gains {
+    let g = window(y, place) ^ parts.g ^ sums.y;
+    Gains { x: low_bits(window(x, place) ^ parts.f ^ sums.x ^ g, width), y: low_bits(g ^ parts.h, width) }
+}
+
+#[inline(always)]
+fn settled(c: u64, slope: u64, near: u32, far: u32, width: u32) -> u64 {
+    let mut word = c;
+    let mut right = near;
+    while right < width {
+        word = c ^ (word >> near) ^ ((word >> far) & slope);
+        right += near;
     }
+    word
 }
 
 #[inline(always)]
-fn h_of(x: Register, y: Register, l: u64, instance: u32) -> u64 {
-    match instance {
-        1 => h_u(x, y, l),
-        2 => h_d(x, y, l),
-        _ => h_s(x, y, l),
+fn found(known: Gains, parts: Parts, near: Near, width: u32) -> Gains {
+    let c = known.y ^ (known.x >> 1) ^ (known.x >> near.x);
+    let y = settled(c, parts.hslope, near.y, near.h, width);
+    let read = y >> near.g;
+    let late = read ^ (read & parts.gslope);
+    Gains { x: known.x ^ late, y: y ^ late ^ (late >> 1) }
+}
+
+#[inline(always)]
+fn back_u(s: State) -> State {
+    let l = eight_back(s.l);
+    let (x0, y0) = (pull(s.x, 0, 60, 8), pull(s.y, 0, 60, 8));
+    let parts = parts_u(x0, y0, l);
+    let sums = linear(x0, y0, F_U, G_U, 8);
+    let new = found(known(s.x, s.y, parts, sums, 60, 8), parts, Near { x: 4, y: 2, h: 3, g: 7 }, 8);
+    State { x: pull(s.x, new.x, 60, 8), y: pull(s.y, new.y, 60, 8), l }
+}
+
+#[inline(always)]
+fn back_d(s: State) -> State {
+    let l = eight_back(s.l);
+    let (x0, y0) = (pull(s.x, 0, 80, 8), pull(s.y, 0, 80, 8));
+    let parts = parts_d(x0, y0, l);
+    let sums = linear(x0, y0, F_D, G_D, 8);
+    let new = found(known(s.x, s.y, parts, sums, 80, 8), parts, Near { x: 5, y: 2, h: 4, g: 9 }, 8);
+    State { x: pull(s.x, new.x, 80, 8), y: pull(s.y, new.y, 80, 8), l }
+}
+
+#[inline(always)]
+fn back_s(s: State, width: u32, place: u32, l: u64, word: u64) -> State {
+    let (x0, y0) = (pull(s.x, 0, place, width), pull(s.y, 0, place, width));
+    let parts = parts_s(x0, y0, word);
+    let sums = linear(x0, y0, F_S, G_S, width);
+    let new = found(known(s.x, s.y, parts, sums, place, width), parts, Near { x: 7, y: 3, h: 8, g: 13 }, width);
+    State { x: pull(s.x, new.x, place, width), y: pull(s.y, new.y, place, width), l }
+}
+
+#[inline(always)]
+fn turn_back(s: State, instance: u32, width: u32) -> State {
+    let later = eight_back(s.l);
+    match (instance, width) {
+        (1, _) => back_u(s),
+        (2, _) => back_d(s),
+        (_, 8) => back_s(s, 8, 120, later, later),
+        _ => {
+            let before = eight_back(later);
+            back_s(s, 16, 112, before, later * 256 + before % 256)
+        }
     }
-}
-
-#[inline(always)]
-fn masks_of(instance: u32) -> (Register, Register) {
-    match instance {
-        1 => (F_U, G_U),
-        2 => (F_D, G_D),
-        _ => (F_S, G_S),
-    }
-}
-
-/// f of X and g of Y in four steps.
-#[inline(always)]
-fn fed(x: Register, y: Register, instance: u32) -> Gains {
-    let (f, g) = masks_of(instance);
-    let products = products_of(x, y, instance);
-    let sums = linear(x, y, f, g, 4);
-    Gains { x: products.x ^ sums.x, y: products.y ^ sums.y }
-}
-
-#[inline(always)]
-fn found_x(x: Register, y: Register, place: u32, fed: Gains) -> u64 {
-    (window(x, place) ^ window(y, place) ^ fed.x ^ fed.y) % 16
-}
-
-#[inline(always)]
-fn found_y(y: Register, place: u32, g: u64, h: u64) -> u64 {
-    (window(y, place) ^ g ^ h) % 16
-}
-
-#[inline(always)]
-fn stride(s: State, instance: u32) -> State {
-    let (x, y) = (s.x, s.y);
-    let place = half_of(instance) as u32 - 4;
-    let before = four_back(s.l);
-    let y0 = pull(y, 0, place, 4);
-    let sums = fed(pull(x, 0, place, 4), y0, instance);
-    let x4 = pull(x, found_x(x, y, place, sums), place, 4);
-    let later = found_y(y, place, sums.y, h_of(x4, y0, before, instance)) / 4 * 4;
-    let y2 = pull(y, later, place, 4);
-    let earlier = found_y(y, place, sums.y, h_of(x4, y2, before, instance)) % 4;
-    State { x: x4, y: pull(y, later + earlier, place, 4), l: before }
 }
 
 fn undo(bits: &mut [u8; 256], instance: u32, width: u32, l: u32, count: u32) {
     let half = half_of(instance);
     let mut s = State { x: load(bits, 0, half), y: load(bits, half, half), l: ahead(u64::from(l), count / 8) };
     for _ in 0..count / width {
-        for _ in 0..width / 4 {
-            s = stride(s, instance);
-        }
+        s = turn_back(s, instance, width);
     }
     save(s.x, bits, 0, half);
     save(s.y, bits, half, half);

@@ -1,5 +1,6 @@
--- `permutation::masks::masks_u` meets its contract: the places of the masks are the linear taps, by computation. Assumes nothing.
+-- `permutation::masks::masks_u` meets its contract: the places of the masks are the linear taps, and no place is above 111, by computation. Assumes nothing.
 use mathlib.Core.Path.{refl}
+use lib.Dec.{lit<}
 use Rattle.quark.specs.Feedback.{exchange}
 use Rattle.quark.specs.Instance.{U}
 use Rattle.quark.specs.leaf.Word.{putIf, placesFrom}
@@ -9,7 +10,7 @@ use Rattle.permutation.proofs.masks.masks_u.Tie as tie
 
 returns : tie.Need-returns
 unfolding U placesFrom putIf linearTaps exchange
-returns c = record { fPlaces = refl; gPlaces = refl }
+returns c = record { fPlaces = refl; gPlaces = refl; fNarrow = lit< tt; gNarrow = lit< tt }
 
 pub masks-u-spec : {M : Type 1} → statement M
 masks-u-spec = tie.close (tie.spec returns)

@@ -1,53 +1,30 @@
--- `permutation::strides::ahead` meets its contract. The invariant: i times eight steps have been taken. Assumes nothing.
-use mathlib.Core.Path.{_≡_, refl, sym, ap, _∙_}
-use Prim.Native.Nat.{ℕ, _+_, _*_, _-_, _≤_, _<_}
+-- `permutation::strides::ahead` meets its contract. Assumes nothing.
+use mathlib.Core.Path.{_≡_, sym, ap, _∙_}
+use Prim.Native.Nat.{ℕ, _+_, _*_, _/_, _%_}
 use native.Mathlib.Omega.{arith}
-use borrow.Author.Needs.{needs}
 use Rattle.quark.specs.Step.{stepsL}
 use Rattle.quark.specs.leaf.Word.{wordBits}
 use Rattle.quark.proofs.Together.{stepsL-add}
 use Rattle.permutation.proofs.strides.ahead.Statement.{statement}
 use Rattle.permutation.proofs.strides.ahead.Tie as tie
 
-abbrev Inv-loop : tie.InvT-loop
-Inv-loop l count now₀ i₀ now i = (i ≤ count) × (now < 1024) × (wordBits 10 now ≡ stepsL (i * 8) (wordBits 10 l))
+far-requires : tie.Need-far-requires
+far-requires c κs = c .pre
 
-abbrev μ-loop : tie.MeasureT-loop
-μ-loop l count now₀ i₀ now i = count - i
+eights-requires : tie.Need-eights-requires
+eights-requires c κs = c .far .ensures .0
 
-loop-holds : tie.Need-loop-holds Inv-loop μ-loop
-unfolding stepsL
-loop-holds c = (search needs, c .pre, refl)
-
-eight-requires : tie.Need-eight-requires Inv-loop μ-loop
-eight-requires c κs = c .before .loop .inv .1
-
-add-i : tie.Need-add-i Inv-loop μ-loop
-add-i c = search needs
-
-loop-less : tie.Need-loop-less Inv-loop μ-loop
-loop-less c = search needs
-
-loop-again : tie.Need-loop-again Inv-loop μ-loop
-loop-again c =
-    let at = c .before .before in
-    let l = at .before .args .l in
-    let i = at .loop .i in
-    let e : i * 8 + 8 ≡ (i + 1) * 8 = omega arith in (
-      search needs,
-      c .eight .ensures .0,
-      c .eight .ensures .1
-          ∙ ap (stepsL 8) (at .loop .inv .2)
-          ∙ sym (stepsL-add (i * 8) 8 (wordBits 10 l))
-          ∙ ap (λ (n : ℕ). stepsL n (wordBits 10 l)) e,
+returns : tie.Need-returns
+returns c =
+    let a = c .before .before .args in
+    let n = a .count in
+    let e : n / 3 * 24 + n % 3 * 8 ≡ n * 8 = omega arith in (
+      c .eights .ensures .0,
+      c .eights .ensures .1
+          ∙ ap (stepsL (n % 3 * 8)) (c .before .far .ensures .1)
+          ∙ sym (stepsL-add (n / 3 * 24) (n % 3 * 8) (wordBits 10 (a .l)))
+          ∙ ap (λ (k : ℕ). stepsL k (wordBits 10 (a .l))) e,
     )
 
-returns : tie.Need-returns Inv-loop μ-loop
-returns c =
-    let at = c .before in
-    let a = at .before .args in
-    let e : at .loop .i ≡ a .count = omega arith in
-    (at .loop .inv .1, at .loop .inv .2 ∙ ap (λ (n : ℕ). stepsL (n * 8) (wordBits 10 (a .l))) e)
-
 pub ahead-spec : {M : Type 1} → statement M
-ahead-spec = tie.close (tie.spec Inv-loop μ-loop loop-holds eight-requires add-i loop-less loop-again returns)
+ahead-spec = tie.close (tie.spec far-requires eights-requires returns)

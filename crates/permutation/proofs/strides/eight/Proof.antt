@@ -2,7 +2,6 @@
 use mathlib.Core.Path.{ap, _∙_}
 use borrow.Author.Needs.{needs}
 use Rattle.quark.specs.Step.{stepsL}
-use Rattle.permutation.proofs.LStrides.{four-steps}
 use Rattle.permutation.proofs.strides.eight.Statement.{statement}
 use Rattle.permutation.proofs.strides.eight.Tie as tie
 

@@ -13,10 +13,10 @@ use Rattle.permutation.proofs.words.turn_d.Statement.{statement}
 use Rattle.permutation.proofs.words.turn_d.Tie as tie
 
 masks-d-requires : tie.Need-masks-d-requires
-masks-d-requires c κs = search needs
+masks-d-requires c κs = tt
 
 rest-d-requires : tie.Need-rest-d-requires
-rest-d-requires c κs = search needs
+rest-d-requires c κs = tt
 
 eight-requires : tie.Need-eight-requires
 eight-requires c κs = search needs
@@ -24,8 +24,9 @@ eight-requires c κs = search needs
 turned-requires : tie.Need-turned-requires
 unfolding D
 turned-requires c κs =
-    let fits = c .before .before .before .before .before .pre in
-    (inl refl, lit< tt, lit≤ tt, fits .fitsX, fits .fitsY)
+    let masks = c .before .before .before .before in
+    let fits = masks .before .pre in
+    (inl refl, lit< tt, lit≤ tt, fits .fitsX, fits .fitsY, masks .masks-d .ensures .fNarrow, masks .masks-d .ensures .gNarrow)
 
 returns : tie.Need-returns
 unfolding D

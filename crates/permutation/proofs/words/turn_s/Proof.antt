@@ -17,7 +17,7 @@ use Rattle.permutation.proofs.words.turn_s.Statement.{statement}
 use Rattle.permutation.proofs.words.turn_s.Tie as tie
 
 masks-s-requires : tie.Need-masks-s-requires
-masks-s-requires c κs = search needs
+masks-s-requires c κs = tt
 
 eight-requires : tie.Need-eight-requires
 eight-requires c κs = search needs
@@ -29,13 +29,14 @@ add-rest-s : tie.Need-add-rest-s
 add-rest-s c = search needs
 
 rest-s-requires : tie.Need-rest-s-requires
-rest-s-requires c κs = search needs
+rest-s-requires c κs = tt
 
 turned-requires : tie.Need-turned-requires
 unfolding S
 turned-requires c κs =
-    let fits = c .before .before .before .before .before .before .pre .1 in
-    (inl refl, lit< tt, lit≤ tt, fits .fitsX, fits .fitsY)
+    let masks = c .before .before .before .before .before in
+    let fits = masks .before .pre .1 in
+    (inl refl, lit< tt, lit≤ tt, fits .fitsX, fits .fitsY, masks .masks-s .ensures .fNarrow, masks .masks-s .ensures .gNarrow)
 
 eight-requires-2 : tie.Need-eight-requires-2
 eight-requires-2 c κs = c .before .before .eight .ensures .0
@@ -43,8 +44,9 @@ eight-requires-2 c κs = c .before .before .eight .ensures .0
 turned-requires-2 : tie.Need-turned-requires-2
 unfolding S
 turned-requires-2 c κs =
-    let fits = c .before .before .before .before .before .before .before .pre .1 in
-    (inr refl, lit< tt, lit≤ tt, fits .fitsX, fits .fitsY)
+    let masks = c .before .before .before .before .before .before in
+    let fits = masks .before .pre .1 in
+    (inr refl, lit< tt, lit≤ tt, fits .fitsX, fits .fitsY, masks .masks-s .ensures .fNarrow, masks .masks-s .ensures .gNarrow)
 
 returns : tie.Need-returns
 unfolding S

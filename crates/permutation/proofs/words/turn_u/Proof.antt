@@ -13,10 +13,10 @@ use Rattle.permutation.proofs.words.turn_u.Statement.{statement}
 use Rattle.permutation.proofs.words.turn_u.Tie as tie
 
 masks-u-requires : tie.Need-masks-u-requires
-masks-u-requires c κs = search needs
+masks-u-requires c κs = tt
 
 rest-u-requires : tie.Need-rest-u-requires
-rest-u-requires c κs = search needs
+rest-u-requires c κs = tt
 
 eight-requires : tie.Need-eight-requires
 eight-requires c κs = search needs
@@ -24,8 +24,9 @@ eight-requires c κs = search needs
 turned-requires : tie.Need-turned-requires
 unfolding U
 turned-requires c κs =
-    let fits = c .before .before .before .before .before .pre in
-    (inl refl, lit< tt, lit≤ tt, fits .fitsX, fits .fitsY)
+    let masks = c .before .before .before .before in
+    let fits = masks .before .pre in
+    (inl refl, lit< tt, lit≤ tt, fits .fitsX, fits .fitsY, masks .masks-u .ensures .fNarrow, masks .masks-u .ensures .gNarrow)
 
 returns : tie.Need-returns
 unfolding U

@@ -1,59 +1,79 @@
--- `permutation::words_back::turn_back` meets its contract. The invariant: i steps have been undone, in whole strides. Assumes nothing.
-use mathlib.Core.Path.{_≡_, refl, subst}
-use Prim.Native.Nat.{ℕ, _-_, _%_, _≤_}
+-- `permutation::words_back::turn_back` meets its contract. Assumes nothing.
+use mathlib.Core.Logic.{⊎-elim}
+use mathlib.Core.Path.{_≡_, sym, subst}
+use Prim.Native.Nat.{ℕ}
 use native.Mathlib.Omega.{arith}
-use borrow.Author.Needs.{needs}
-use Rattle.quark.specs.Instance.{instanceOf}
-use Rattle.permutation.specs.leaf.Words.{Preceding}
-use Rattle.permutation.proofs.Widths.{some-width}
-use Rattle.permutation.proofs.TurnsBack.{whole-strides, no-stride, one-stride-more}
+use Rattle.quark.specs.Instance.{Instance, U, D, S, instanceOf}
+use Rattle.permutation.specs.declared.registers.Register.{Register}
+use Rattle.permutation.specs.declared.words.State.{State}
+use Rattle.permutation.specs.leaf.Words.{Fitting, Preceding}
+use Rattle.permutation.proofs.Instances.{is-U, is-D, is-S}
+use Rattle.permutation.proofs.Widths.{eight-alone}
 use Rattle.permutation.proofs.words_back.turn_back.Statement.{statement}
 use Rattle.permutation.proofs.words_back.turn_back.Tie as tie
 
-abbrev Inv-loop : tie.InvT-loop
-Inv-loop l instance width s₀ i₀ s i = (i ≤ width) × (i % 4 ≡ 0) × Preceding (instanceOf instance .taps) i (s₀ .x) (s₀ .y) (s₀ .l) s
+back-u-requires : tie.Need-back-u-requires
+back-u-requires c κs =
+    let s = c .before in
+    let a = s .args in
+    subst (λ (I : Instance). Fitting (I .taps) (a .x) (a .y) (a .l)) (is-U (a .instance) (c .if1 .taken)) (s .pre .1)
 
-abbrev μ-loop : tie.MeasureT-loop
-μ-loop l instance width s₀ i₀ s i = width - i
+back-d-requires : tie.Need-back-d-requires
+back-d-requires c κs =
+    let s = c .before .before in
+    let a = s .args in
+    subst (λ (I : Instance). Fitting (I .taps) (a .x) (a .y) (a .l)) (is-D (a .instance) (c .if2 .taken)) (s .pre .1)
 
-loop-holds : tie.Need-loop-holds Inv-loop μ-loop
-loop-holds c =
-    let a = c .args in
-    (search needs, refl, no-stride (instanceOf (a .instance) .taps) (a .x) (a .y) (a .l) (c .pre .1))
+-- neither U nor D is S
+back-s-8-requires : tie.Need-back-s-8-requires
+back-s-8-requires c κs =
+    let s = c .before .before .before in
+    let a = s .args in
+    subst (λ (I : Instance). Fitting (I .taps) (a .x) (a .y) (a .l)) (is-S (a .instance) (c .before .before .if1 .left) (c .before .if2 .left)) (s .pre .1)
 
-stride-requires : tie.Need-stride-requires Inv-loop μ-loop
-stride-requires c κs = c .before .before .before .loop .inv .2 .fitting
+back-s-16-requires : tie.Need-back-s-16-requires
+back-s-16-requires c κs =
+    let s = c .before .before .before in
+    let a = s .args in
+    subst (λ (I : Instance). Fitting (I .taps) (a .x) (a .y) (a .l)) (is-S (a .instance) (c .before .before .if1 .left) (c .before .if2 .left)) (s .pre .1)
 
--- the width is whole strides
-whole : (s : tie.Start Inv-loop μ-loop) → (s .args .width % 4 ≡ 0) × (s .args .width ≤ 16)
-whole s = whole-strides (s .args .width) (some-width (s .args .instance) (s .args .width) (s .pre .0))
+-- the steps that a turn undoes, of the instance and the width that the branch says
+at : (I J : Instance) (v w : ℕ) (x y : Register) (l : ℕ) (t : State) → I ≡ J → w ≡ v → Preceding (J .taps) v x y l t → Preceding (I .taps) w x y l t
+at I J v w x y l t e q h =
+    subst (λ (K : Instance). Preceding (K .taps) w x y l t) (sym e) (subst (λ (n : ℕ). Preceding (J .taps) n x y l t) (sym q) h)
 
-add-i : tie.Need-add-i Inv-loop μ-loop
-add-i c =
-    let w = whole (c .before .before .before .before .before) in
-    search needs
-
-loop-less : tie.Need-loop-less Inv-loop μ-loop
-loop-less c = search needs
-
-loop-again : tie.Need-loop-again Inv-loop μ-loop
-loop-again c =
-    let at = c .before .before .before .before in
-    let a = at .before .args in
-    let i = at .loop .i in
-    let w = whole (at .before) in
-    let z : i % 4 ≡ 0 = at .loop .inv .1 in (
-      omega arith,
-      omega arith,
-      one-stride-more (instanceOf (a .instance) .taps) i 4 (a .x) (a .y) (a .l) (at .loop .s) (c .stride .result) (at .loop .inv .2) (c .stride .ensures),
-    )
-
-returns : tie.Need-returns Inv-loop μ-loop
+returns : tie.Need-returns
 returns c =
-    let at = c .before in
-    let a = at .before .args in
-    let e : at .loop .i ≡ a .width = omega arith in
-    subst (λ (n : ℕ). Preceding (instanceOf (a .instance) .taps) n (a .x) (a .y) (a .l) (at .loop .s)) e (at .loop .inv .2)
+    let branch = c .before in
+    let s = branch .before in
+    let a = s .args in
+    let i : a .instance ≡ 1 = branch .if1 .taken in
+    at (instanceOf (a .instance)) U 8 (a .width) (a .x) (a .y) (a .l) (c .back-u .result) (is-U (a .instance) i)
+    (eight-alone (a .instance) (a .width) (λ e. omega arith) (s .pre .0)) (c .back-u .ensures)
+
+returns-2 : tie.Need-returns-2
+returns-2 c =
+    let branch = c .before in
+    let s = branch .before .before in
+    let a = s .args in
+    let i : a .instance ≡ 2 = branch .if2 .taken in
+    at (instanceOf (a .instance)) D 8 (a .width) (a .x) (a .y) (a .l) (c .back-d .result) (is-D (a .instance) i)
+    (eight-alone (a .instance) (a .width) (λ e. omega arith) (s .pre .0)) (c .back-d .ensures)
+
+returns-3 : tie.Need-returns-3
+returns-3 c =
+    let branch = c .before in
+    let a = branch .before .before .before .args in
+    at (instanceOf (a .instance)) S 8 (a .width) (a .x) (a .y) (a .l) (c .back-s-8 .result) (is-S (a .instance) (branch .before .before .if1 .left) (branch .before .if2 .left))
+    (branch .if3 .taken) (c .back-s-8 .ensures)
+
+returns-4 : tie.Need-returns-4
+returns-4 c =
+    let branch = c .before in
+    let s = branch .before .before .before in
+    let a = s .args in
+    at (instanceOf (a .instance)) S 16 (a .width) (a .x) (a .y) (a .l) (c .back-s-16 .result) (is-S (a .instance) (branch .before .before .if1 .left) (branch .before .if2 .left))
+    (⊎-elim (λ e. absurd (branch .if3 .left e)) (λ e. e .1) (s .pre .0)) (c .back-s-16 .ensures)
 
 pub turn-back-spec : {M : Type 1} → statement M
-turn-back-spec = tie.close (tie.spec Inv-loop μ-loop loop-holds stride-requires add-i loop-less loop-again returns)
+turn-back-spec = tie.close (tie.spec back-u-requires returns back-d-requires returns-2 back-s-8-requires back-s-16-requires returns-3 returns-4)

@@ -6,7 +6,7 @@ use native.Mathlib.Omega.{arith}
 use borrow.Author.Needs.{needs}
 use Rattle.quark.specs.Instance.{instanceOf}
 use Rattle.permutation.specs.leaf.Words.{Preceding}
-use Rattle.permutation.proofs.TurnsBack.{no-stride, one-stride-more}
+use Rattle.permutation.proofs.TurnsBack.{no-turn-back, one-turn-back-more}
 use Rattle.permutation.proofs.words_back.turns_back.Statement.{statement}
 use Rattle.permutation.proofs.words_back.turns_back.Tie as tie
 
@@ -19,7 +19,7 @@ abbrev μ-loop : tie.MeasureT-loop
 loop-holds : tie.Need-loop-holds Inv-loop μ-loop
 loop-holds c =
     let a = c .args in
-    (search needs, subst (λ (n : ℕ). Preceding (instanceOf (a .instance) .taps) n (a .x) (a .y) (a .l) (record { x = a .x; y = a .y; l = a .l })) (sym (zero-mul (a .width))) (no-stride (instanceOf (a .instance) .taps) (a .x) (a .y) (a .l) (c .pre .1)))
+    (search needs, subst (λ (n : ℕ). Preceding (instanceOf (a .instance) .taps) n (a .x) (a .y) (a .l) (record { x = a .x; y = a .y; l = a .l })) (sym (zero-mul (a .width))) (no-turn-back (instanceOf (a .instance) .taps) (a .x) (a .y) (a .l) (c .pre .1)))
 
 turn-back-requires : tie.Need-turn-back-requires Inv-loop μ-loop
 turn-back-requires c κs =
@@ -40,7 +40,7 @@ loop-again c =
     let e : i * a .width + a .width ≡ (i + 1) * a .width = sym (add-mul i 1 (a .width) ∙ ap (λ (n : ℕ). i * a .width + n) (one-mul (a .width))) in (
       search needs,
       subst (λ (n : ℕ). Preceding (instanceOf (a .instance) .taps) n (a .x) (a .y) (a .l) (c .turn-back .result)) e
-          (one-stride-more (instanceOf (a .instance) .taps) (i * a .width) (a .width) (a .x) (a .y) (a .l) (at .loop .s) (c .turn-back .result) (at .loop .inv .1)
+          (one-turn-back-more (instanceOf (a .instance) .taps) (i * a .width) (a .width) (a .x) (a .y) (a .l) (at .loop .s) (c .turn-back .result) (at .loop .inv .1)
           (c .turn-back .ensures)),
     )
 

@@ -9,10 +9,10 @@ use lib.ListN.{length, take, drop}
 use Rattle.quark.specs.Instance.{instanceOf}
 use Rattle.quark.specs.Step.{stepsL}
 use Rattle.quark.specs.leaf.Word.{wordBits}
+use Rattle.quark.proofs.Instance.{regular}
 use Rattle.permutation.specs.leaf.Words.{value, written, Preceding}
 use Rattle.permutation.proofs.CellWords.{length-written}
 use Rattle.permutation.proofs.Widths.{half-fits, some-width}
-use Rattle.permutation.proofs.SpreadTaps.{strided}
 use Rattle.permutation.proofs.TurnsBack.{whole-eights, undone-words}
 use Rattle.permutation.proofs.WordTurns.{width-fits}
 use Rattle.permutation.proofs.words_back.undo.Statement.{statement}
@@ -109,7 +109,7 @@ returns c =
     c .save2 .ensures
     ∙ ap (λ (t : List ℕ). written t h h (value (turns .turns-back .result .y))) (first one)
     ∙ ap (λ (k : ℕ). written (written cells 0 k (value (turns .turns-back .result .x))) k k (value (turns .turns-back .result .y))) e
-    ∙ undone-words I (strided (a .instance) .0) cells (f .1) (let l = s .pre .3 in omega arith) (x .load .result) (y .load2 .result) (a .l)
+    ∙ undone-words I (regular (a .instance) .lawful) cells (f .1) (let l = s .pre .3 in omega arith) (x .load .result) (y .load2 .result) (a .l)
     (ahead .ahead .result) (a .count) (turns .turns-back .result)
     (subst (λ (k : ℕ). wordBits k (value (x .load .result)) ≡ take k (drop 0 cells)) e (x .load .ensures .1))
     (subst (λ (k : ℕ). wordBits k (value (y .load2 .result)) ≡ take k (drop k cells)) e (y .load2 .ensures .1))
