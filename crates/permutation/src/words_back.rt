@@ -98,20 +98,6 @@ fn parts_d(x: Register, y: Register, l: u64) -> Parts
     }
 }
 
-// The parts of S.
-fn parts_s(x: Register, y: Register, l: u64) -> Parts
-    ensures { λ p. ⌜ ((k : ℕ) → k < 64 → PartBits (S .taps) x y l p k) ⌝ }
-{
-    let products = products_s(x, y);
-    Parts {
-        f: products.x,
-        g: products.y,
-        h: h_s(x, y, l),
-        gslope: g_slope(y, 28, 37, 56, 65, 79, 109),
-        hslope: h_slope(x, y, 47, 72, 100, 111),
-    }
-}
-
 // The bits of X and Y before their steps, but for what f, g and h read of them: what X and Y gained and f and g, added; what Y gained, g
 // and h. `sums` has the linear taps of f and g.
 fn known(x: Register, y: Register, parts: Parts, sums: Gains, place: u32, width: u32) -> Gains
@@ -211,7 +197,7 @@ fn back_d(x: Register, y: Register, l: u64) -> State
     }
 }
 
-// Eight steps of S undone.
+// Eight steps of S undone. The parts are written out here and below: a function that two call is not inlined, and takes S 5 to 10 % longer.
 fn back_s_8(x: Register, y: Register, l: u64) -> State
     requires { ⌜ Fitting (S .taps) x y l ⌝ }
     ensures { λ s. ⌜ Preceding (S .taps) 8 x y l s ⌝ }
@@ -222,7 +208,14 @@ fn back_s_8(x: Register, y: Register, l: u64) -> State
     let masks = masks_s();
     let f = masks.f;
     let g = masks.g;
-    let parts = parts_s(x0, y0, before);
+    let products = products_s(x0, y0);
+    let parts = Parts {
+        f: products.x,
+        g: products.y,
+        h: h_s(x0, y0, before),
+        gslope: g_slope(y0, 28, 37, 56, 65, 79, 109),
+        hslope: h_slope(x0, y0, 47, 72, 100, 111),
+    };
     let sums = linear(x0, y0, f, g, 8);
     let near = Near {
         x: 7,
@@ -250,7 +243,14 @@ fn back_s_16(x: Register, y: Register, l: u64) -> State
     let masks = masks_s();
     let f = masks.f;
     let g = masks.g;
-    let parts = parts_s(x0, y0, later * 256 + before % 256);
+    let products = products_s(x0, y0);
+    let parts = Parts {
+        f: products.x,
+        g: products.y,
+        h: h_s(x0, y0, later * 256 + before % 256),
+        gslope: g_slope(y0, 28, 37, 56, 65, 79, 109),
+        hslope: h_slope(x0, y0, 47, 72, 100, 111),
+    };
     let sums = linear(x0, y0, f, g, 16);
     let near = Near {
         x: 7,
