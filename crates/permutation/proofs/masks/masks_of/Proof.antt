@@ -1,6 +1,5 @@
 -- `permutation::masks::masks_of` meets its contract. Assumes nothing.
 use mathlib.Core.Path.{sym, subst}
-use borrow.Author.Needs.{needs}
 use Rattle.quark.specs.Instance.{Instance}
 use Rattle.permutation.specs.leaf.Words.{Masking}
 use Rattle.permutation.proofs.Instances.{is-U, is-D, is-S}
@@ -8,13 +7,13 @@ use Rattle.permutation.proofs.masks.masks_of.Statement.{statement}
 use Rattle.permutation.proofs.masks.masks_of.Tie as tie
 
 masks-u-requires : tie.Need-masks-u-requires
-masks-u-requires c κs = search needs
+masks-u-requires c κs = tt
 
 masks-d-requires : tie.Need-masks-d-requires
-masks-d-requires c κs = search needs
+masks-d-requires c κs = tt
 
 masks-s-requires : tie.Need-masks-s-requires
-masks-s-requires c κs = search needs
+masks-s-requires c κs = tt
 
 returns : tie.Need-returns
 returns c =
