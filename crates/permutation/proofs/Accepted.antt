@@ -1,5 +1,5 @@
--- The outcome of a call by the number that its lines give, and what follows where none refuses it. Assumes nothing.
-use mathlib.Core.Bool.{Bool, true, false}
+-- The number that the lines of a call give, the outcome by it, and what follows where none refuses the call. Assumes nothing.
+use mathlib.Core.Bool.{Bool, true, false, cond}
 use mathlib.Core.List.{List, [], _∷_}
 use mathlib.Core.Path.{_≡_, refl, sym, ap, _∙_}
 use Prim.Native.Nat.{ℕ, zero, suc}
@@ -11,6 +11,10 @@ use Rattle.quark.specs.Feedback.{Taps}
 use Rattle.permutation.specs.Lines.{isWidth, stateBytes, line1, line4, line5, firstLine}
 use Rattle.permutation.specs.Outcome.{Outcome, accepted, refused, outcome}
 use Rattle.permutation.specs.Permute.{permuteNumber, onBytes, overwritten}
+
+-- a line with its number in front of others, by what the code finds for it and for them
+pub in-front : {line holds : Bool} {others rest n : ℕ} (number : ℕ) → n ≡ cond holds number rest → holds ≡ line → rest ≡ others → n ≡ cond line number others
+in-front number e test behind = cc
 
 -- no line holds exactly when the first does not, and none behind it does
 pub passed : (holds : Bool) (number : ℕ) (lines : List (Bool × ℕ)) → firstLine ((holds, suc number) ∷ lines) ≡ 0 → (holds ≡ false) × (firstLine lines ≡ 0)

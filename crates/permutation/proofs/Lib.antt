@@ -8,6 +8,7 @@ pub mod Cells
 pub mod SerialSteps
 pub mod Accepted
 pub mod Turn
+pub mod Weights
 pub mod Sums
 pub mod WordTurns
 pub mod LSequence

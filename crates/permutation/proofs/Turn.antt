@@ -20,13 +20,22 @@ use Rattle.permutation.specs.Permute.{onBytes}
 use Rattle.permutation.specs.leaf.Core.{Cells, ran, undone, turned}
 
 -- all ones, and 4b steps: P and its inverse
-pub ran-P : (I : Instance) (cells : List ℕ) → ran I 1023 (rounds (I .taps)) cells ≡ turned false (I .taps) (take (I .b) cells) ++ drop (I .b) cells
-unfolding ran turned P allOnes wordBits
-ran-P I cells = refl
+module _ (I : Instance) (cells : List ℕ) where
+  pub ran-P : ran I 1023 (rounds (I .taps)) cells ≡ turned false (I .taps) (take (I .b) cells) ++ drop (I .b) cells
+  unfolding ran turned P allOnes wordBits
+  ran-P = refl
 
-pub undone-P : (I : Instance) (cells : List ℕ) → undone I 1023 (rounds (I .taps)) cells ≡ turned true (I .taps) (take (I .b) cells) ++ drop (I .b) cells
-unfolding undone turned undoP allOnes wordBits
-undone-P I cells = refl
+  pub undone-P : undone I 1023 (rounds (I .taps)) cells ≡ turned true (I .taps) (take (I .b) cells) ++ drop (I .b) cells
+  unfolding undone turned undoP allOnes wordBits
+  undone-P = refl
+
+  -- the same where a test and a count say so
+  module _ (inverse : Bool) (count : ℕ) (all : count ≡ rounds (I .taps)) (after : List ℕ) where
+    pub run-turns : inverse ≡ false → after ≡ ran I 1023 count cells → after ≡ turned inverse (I .taps) (take (I .b) cells) ++ drop (I .b) cells
+    run-turns test e = cc ran-P
+
+    pub undo-turns : inverse ≡ true → after ≡ undone I 1023 count cells → after ≡ turned inverse (I .taps) (take (I .b) cells) ++ drop (I .b) cells
+    undo-turns test e = cc undone-P
 
 -- bytes of bits that others stand behind
 byte-append : (s t : List ℕ) (j : ℕ) → 8 * j + 8 ≤ length s → byteAt (s ++ t) j ≡ byteAt s j

@@ -2,7 +2,7 @@
 // A buffer has as many bytes as b / 8, at most 32; its bits go into the first b of 256 cells.
 ghost use mathlib.Core.Path.{_≡_};
 ghost use mathlib.Core.List.{_++_};
-ghost use Prim.Native.Nat.{_+_, _*_, _-_, _^_, _<_, _≤_};
+ghost use Prim.Native.Nat.{_*_, _-_, _<_, _≤_};
 ghost use lib.ListN.{length, replicate};
 ghost use Rattle.quark.specs.Bytes.{bitsOf, byteAt, bytesOf};
 ghost use Rattle.permutation.specs.leaf.Core.{Cells};
@@ -22,31 +22,20 @@ pub fn load(buffer: &[u8], bits: &mut [u8; 256])
     }
 }
 
-// The byte of eight bits, the first with weight 128.
-fn weigh(a: u8, b: u8, c: u8, d: u8, e: u8, f: u8, g: u8, h: u8) -> u8
-    requires { ⌜ (a < 2) × (b < 2) × (c < 2) × (d < 2) × (e < 2) × (f < 2) × (g < 2) × (h < 2) ⌝ }
-    ensures { λ r. ⌜ r ≡ a * 2 ^ 7 + b * 2 ^ 6 + c * 2 ^ 5 + d * 2 ^ 4 + e * 2 ^ 3 + f * 2 ^ 2 + g * 2 ^ 1 + h * 2 ^ 0 ⌝ }
-{
-    a * 128 + b * 64 + c * 32 + d * 16 + e * 8 + f * 4 + g * 2 + h
-}
-
-// Byte j of the cells.
+// Byte j of the cells: each bit is put behind those before it, so that the first gets the weight 128.
 fn byte_at(bits: &[u8; 256], j: usize) -> u8
     requires { ⌜ j < 32 ⌝ }
     requires { ⌜ Cells (now bits) ⌝ }
     ensures { λ r. ⌜ r ≡ byteAt (now (bits .entry)) j ⌝ }
 {
     let at = 8 * j;
-    weigh(
-        bits[at],
-        bits[at + 1],
-        bits[at + 2],
-        bits[at + 3],
-        bits[at + 4],
-        bits[at + 5],
-        bits[at + 6],
-        bits[at + 7],
-    )
+    let mut byte = 0;
+    let mut k = 0;
+    while k < 8 {
+        byte = byte * 2 + bits[at + k];
+        k += 1;
+    }
+    byte
 }
 
 // The first bytes of the cells, as many as the buffer has.

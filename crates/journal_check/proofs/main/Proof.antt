@@ -14,7 +14,7 @@ slice-aggregate-read-input : tie.Need-slice-aggregate-read-input
 slice-aggregate-read-input c = search needs
 
 read-input-requires : tie.Need-read-input-requires
-read-input-requires c κs = search needs
+read-input-requires c κs = tt
 
 sub-report : tie.Need-sub-report
 sub-report c = search needs
@@ -26,7 +26,7 @@ part-report-end : tie.Need-part-report-end
 part-report-end c = search needs
 
 report-requires : tie.Need-report-requires
-report-requires c κs = search needs
+report-requires c κs = tt
 
 sub-write-all : tie.Need-sub-write-all
 sub-write-all c = search needs

@@ -1,5 +1,5 @@
 -- `lfsr` meets its contract: L's steps from all ones, mirrored. Assumes nothing.
-use mathlib.Core.Path.{_≡_, ap, _∙_}
+use mathlib.Core.Path.{ap, _∙_}
 use native.Mathlib.Omega.{arith}
 use borrow.Author.Needs.{needs}
 use Rattle.quark.specs.Step.{allOnes}

@@ -5,7 +5,7 @@ use Rattle.permutation.proofs.permute.Statement.{statement}
 use Rattle.permutation.proofs.permute.Tie as tie
 
 overwrite-requires : tie.Need-overwrite-requires
-overwrite-requires c κs = search needs
+overwrite-requires c κs = tt
 
 same-length : tie.Need-same-length
 same-length c = search needs

@@ -6,10 +6,10 @@ use Rattle.quark_c.proofs.quark_invert.Statement.{statement}
 use Rattle.quark_c.proofs.quark_invert.Tie as tie
 
 invert-requires : tie.Need-invert-requires
-invert-requires c κs = search needs
+invert-requires c κs = tt
 
 number-of-requires : tie.Need-number-of-requires
-number-of-requires c κs = search needs
+number-of-requires c κs = tt
 
 same-length : tie.Need-same-length
 same-length c = search needs

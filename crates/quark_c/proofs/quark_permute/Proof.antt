@@ -6,10 +6,10 @@ use Rattle.quark_c.proofs.quark_permute.Statement.{statement}
 use Rattle.quark_c.proofs.quark_permute.Tie as tie
 
 permute-requires : tie.Need-permute-requires
-permute-requires c κs = search needs
+permute-requires c κs = tt
 
 number-of-requires : tie.Need-number-of-requires
-number-of-requires c κs = search needs
+number-of-requires c κs = tt
 
 same-length : tie.Need-same-length
 same-length c = search needs

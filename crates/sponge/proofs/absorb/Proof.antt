@@ -3,7 +3,6 @@ use mathlib.Core.Path.{sym, ap, _∙_}
 use Prim.Native.Nat.{ℕ}
 use native.Mathlib.Nat.{div-le-self}
 use native.Mathlib.Omega.{arith}
-use borrow.Author.Needs.{needs}
 use denote.Ref.{now}
 use lib.ListN.{length}
 use Rattle.quark.specs.Bytes.{bitsOf}
@@ -20,10 +19,10 @@ lines-passed : (c : tie.Else1) → let a = c .before .before .before .args in Ab
 lines-passed c = absorb-passed _ _ _ _ (sym (c .before .absorb-line .ensures) ∙ c .if1 .left)
 
 absorb-line-requires : tie.Need-absorb-line-requires
-absorb-line-requires c κs = search needs
+absorb-line-requires c κs = tt
 
 refuse-requires : tie.Need-refuse-requires
-refuse-requires c κs = search needs
+refuse-requires c κs = tt
 
 returns : tie.Need-returns
 unfolding absorbResult
@@ -36,7 +35,7 @@ take-bits-requires c κs =
     (p .ready, p .within, p .room, omega (arith, p .state .runs-are, div-le-self (s .total) (instanceOf (s .instance) .r)))
 
 accept-requires : tie.Need-accept-requires
-accept-requires c κs = search needs
+accept-requires c κs = tt
 
 returns-2 : tie.Need-returns-2
 unfolding absorbResult

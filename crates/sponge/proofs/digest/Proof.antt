@@ -36,7 +36,7 @@ taken c =
     whole-taken (a .instance) (bitsOf (a .count) (now (a .message))) (c .before .fresh .result) (c .take-bits .result) (c .before .fresh .ensures) (c .take-bits .ensures)
 
 digest-line-requires : tie.Need-digest-line-requires
-digest-line-requires c κs = search needs
+digest-line-requires c κs = tt
 
 returns : tie.Need-returns
 unfolding outcomeOf digestOutcome digestBytes
@@ -45,7 +45,7 @@ returns c =
     (refused-outcome _ _ e (c .if1 .taken), refused-lent _ _ _ (λ z. c .if1 .taken (e ∙ z)))
 
 fresh-requires : tie.Need-fresh-requires
-fresh-requires c κs = search needs
+fresh-requires c κs = tt
 
 take-bits-requires : tie.Need-take-bits-requires
 unfolding fresh stateWith

@@ -1,7 +1,6 @@
 -- `init` meets its contract. Assumes nothing.
 use mathlib.Core.Bool.{true, false}
 use mathlib.Core.Path.{_≡_, sym, ap, _∙_}
-use borrow.Author.Needs.{needs}
 use Rattle.permutation.specs.Lines.{isInstance, line1, firstLine}
 use Rattle.permutation.specs.Outcome.{accepted, refused, outcome}
 use Rattle.sponge.specs.declared.State.{State}
@@ -11,13 +10,13 @@ use Rattle.sponge.proofs.init.Statement.{statement}
 use Rattle.sponge.proofs.init.Tie as tie
 
 is-instance-requires : tie.Need-is-instance-requires
-is-instance-requires c κs = search needs
+is-instance-requires c κs = tt
 
 fresh-requires : tie.Need-fresh-requires
-fresh-requires c κs = search needs
+fresh-requires c κs = tt
 
 accept-requires : tie.Need-accept-requires
-accept-requires c κs = search needs
+accept-requires c κs = tt
 
 returns : tie.Need-returns
 unfolding initResult initNumber firstLine line1 resultBy outcome
@@ -27,10 +26,10 @@ returns c =
     c .accept .ensures ∙ rw known (ap (λ (s : State). record { outcome = accepted tt; state = s }) (c .before .fresh .ensures))
 
 zeros-requires : tie.Need-zeros-requires
-zeros-requires c κs = search needs
+zeros-requires c κs = tt
 
 refuse-requires : tie.Need-refuse-requires
-refuse-requires c κs = search needs
+refuse-requires c κs = tt
 
 returns-2 : tie.Need-returns-2
 unfolding initResult initNumber firstLine line1 resultBy outcome allZeros

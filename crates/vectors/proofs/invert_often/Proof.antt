@@ -16,7 +16,7 @@ loop-holds : tie.Need-loop-holds Inv-loop μ-loop
 loop-holds c = search needs
 
 invert-requires : tie.Need-invert-requires Inv-loop μ-loop
-invert-requires c κs = search needs
+invert-requires c κs = tt
 
 write-refusal-requires : tie.Need-write-refusal-requires Inv-loop μ-loop
 write-refusal-requires c κs = search needs

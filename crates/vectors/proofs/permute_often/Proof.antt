@@ -16,7 +16,7 @@ loop-holds : tie.Need-loop-holds Inv-loop μ-loop
 loop-holds c = search needs
 
 permute-requires : tie.Need-permute-requires Inv-loop μ-loop
-permute-requires c κs = search needs
+permute-requires c κs = tt
 
 write-refusal-requires : tie.Need-write-refusal-requires Inv-loop μ-loop
 write-refusal-requires c κs = search needs

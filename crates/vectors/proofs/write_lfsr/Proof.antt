@@ -14,7 +14,7 @@ write-all-requires : tie.Need-write-all-requires Inv-loop μ-loop
 write-all-requires c κs = search needs
 
 lfsr-requires : tie.Need-lfsr-requires Inv-loop μ-loop
-lfsr-requires c κs = search needs
+lfsr-requires c κs = tt
 
 loop-holds : tie.Need-loop-holds Inv-loop μ-loop
 loop-holds c = search needs

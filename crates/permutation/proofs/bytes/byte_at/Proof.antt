@@ -1,85 +1,75 @@
--- `bytes::byte_at` meets its contract. Assumes nothing.
-use Rattle.quark.specs.Bytes.{byteAt}
+-- `bytes::byte_at` meets its contract: after k turns the byte is the number of the first k bits. Assumes nothing.
+use mathlib.Core.Path.{_≡_, refl, ap, _∙_}
+use Prim.Native.Nat.{_+_, _*_, _-_, _≤_}
+use native.Mathlib.Omega.{arith}
 use borrow.Author.Needs.{needs}
+use Rattle.permutation.proofs.Weights.{weighed, weighed-next, weighed-fits, weighed-byte}
 use Rattle.permutation.proofs.bytes.byte_at.Statement.{statement}
 use Rattle.permutation.proofs.bytes.byte_at.Tie as tie
 
-mul-at : tie.Need-mul-at
+abbrev Inv-loop : tie.InvT-loop
+Inv-loop bits j at byte₀ k₀ byte k = (k ≤ 8) × (byte ≡ weighed bits at k)
+
+abbrev μ-loop : tie.MeasureT-loop
+μ-loop bits j at byte₀ k₀ byte k = 8 - k
+
+mul-at : tie.Need-mul-at Inv-loop μ-loop
 mul-at c = search needs
 
-element-copy-out-weigh : tie.Need-element-copy-out-weigh
-element-copy-out-weigh c = search needs
+loop-holds : tie.Need-loop-holds Inv-loop μ-loop
+unfolding weighed
+loop-holds c = (omega arith, refl)
 
-add-weigh : tie.Need-add-weigh
-add-weigh c = search needs
+mul-byte : tie.Need-mul-byte Inv-loop μ-loop
+mul-byte c =
+    let l = c .before .loop in
+    let s = c .before .before in
+    omega (arith, l .inv .1, weighed-fits (s .args .bits .now) (8 * s .args .j) (l .k) (s .pre .1) (search needs))
 
-element-copy-out-weigh-2 : tie.Need-element-copy-out-weigh-2
-element-copy-out-weigh-2 c = search needs
+add-byte : tie.Need-add-byte Inv-loop μ-loop
+add-byte c = search needs
 
-add-weigh-2 : tie.Need-add-weigh-2
-add-weigh-2 c = search needs
+element-copy-out-byte : tie.Need-element-copy-out-byte Inv-loop μ-loop
+element-copy-out-byte c = search needs
 
-element-copy-out-weigh-3 : tie.Need-element-copy-out-weigh-3
-element-copy-out-weigh-3 c = search needs
+add-byte-2 : tie.Need-add-byte-2 Inv-loop μ-loop
+add-byte-2 c =
+    let l = c .before .before .loop in
+    let s = c .before .before .before in
+    omega (arith, l .inv .1, weighed-fits (s .args .bits .now) (8 * s .args .j) (l .k) (s .pre .1) (search needs), s .pre .1 (8 * s .args .j + l .k))
 
-add-weigh-3 : tie.Need-add-weigh-3
-add-weigh-3 c = search needs
+add-k : tie.Need-add-k Inv-loop μ-loop
+add-k c = search needs
 
-element-copy-out-weigh-4 : tie.Need-element-copy-out-weigh-4
-element-copy-out-weigh-4 c = search needs
+loop-less : tie.Need-loop-less Inv-loop μ-loop
+loop-less c = search needs
 
-add-weigh-4 : tie.Need-add-weigh-4
-add-weigh-4 c = search needs
+loop-again : tie.Need-loop-again Inv-loop μ-loop
+loop-again c =
+    let l = c .before .before .loop in
+    let s = c .before .before .before in
+    (omega arith, rw (l .inv .1, weighed-next (s .args .bits .now) (8 * s .args .j) (l .k)))
 
-element-copy-out-weigh-5 : tie.Need-element-copy-out-weigh-5
-element-copy-out-weigh-5 c = search needs
-
-add-weigh-5 : tie.Need-add-weigh-5
-add-weigh-5 c = search needs
-
-element-copy-out-weigh-6 : tie.Need-element-copy-out-weigh-6
-element-copy-out-weigh-6 c = search needs
-
-add-weigh-6 : tie.Need-add-weigh-6
-add-weigh-6 c = search needs
-
-element-copy-out-weigh-7 : tie.Need-element-copy-out-weigh-7
-element-copy-out-weigh-7 c = search needs
-
-add-weigh-7 : tie.Need-add-weigh-7
-add-weigh-7 c = search needs
-
-element-copy-out-weigh-8 : tie.Need-element-copy-out-weigh-8
-element-copy-out-weigh-8 c = search needs
-
-weigh-requires : tie.Need-weigh-requires
-weigh-requires c κs =
-    let b = c .before .before .before .before .before .before .before .before .pre .1 in
-    (b _, b _, b _, b _, b _, b _, b _, b _)
-
-returns : tie.Need-returns
-unfolding byteAt
-returns c = c .weigh .ensures
+returns : tie.Need-returns Inv-loop μ-loop
+returns c =
+    let l = c .before .loop in
+    let s = c .before .before in
+    let all : l .k ≡ 8 = omega arith in
+    l .inv .1 ∙ ap (weighed (s .args .bits .now) (8 * s .args .j)) all ∙ weighed-byte (s .args .bits .now) (s .args .j)
 
 pub byte-at-spec : {M : Type 1} → statement M
 byte-at-spec =
     tie.close
     (tie.spec
+    Inv-loop
+    μ-loop
     mul-at
-    element-copy-out-weigh
-    add-weigh
-    element-copy-out-weigh-2
-    add-weigh-2
-    element-copy-out-weigh-3
-    add-weigh-3
-    element-copy-out-weigh-4
-    add-weigh-4
-    element-copy-out-weigh-5
-    add-weigh-5
-    element-copy-out-weigh-6
-    add-weigh-6
-    element-copy-out-weigh-7
-    add-weigh-7
-    element-copy-out-weigh-8
-    weigh-requires
+    loop-holds
+    mul-byte
+    add-byte
+    element-copy-out-byte
+    add-byte-2
+    add-k
+    loop-less
+    loop-again
     returns)

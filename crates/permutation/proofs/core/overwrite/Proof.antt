@@ -1,8 +1,6 @@
 -- `overwrite` meets its contract: where no line holds the buffer has a state's length, its bits go through the cells, and the bytes that
 -- are stored are those of P, or of its inverse. Assumes nothing.
-use mathlib.Core.List.{List}
 use mathlib.Core.Path.{_≡_, refl, sym, _∙_}
-use Prim.Native.Nat.{ℕ}
 use borrow.Author.Needs.{needs}
 use lib.ListN.{length}
 use Rattle.permutation.specs.Outcome.{outcomeOf}
@@ -15,7 +13,7 @@ use Rattle.permutation.proofs.core.overwrite.Statement.{statement}
 use Rattle.permutation.proofs.core.overwrite.Tie as tie
 
 buffer-line-requires : tie.Need-buffer-line-requires
-buffer-line-requires c κs = search needs
+buffer-line-requires c κs = tt
 
 returns : tie.Need-returns
 unfolding outcomeOf permuteOutcome

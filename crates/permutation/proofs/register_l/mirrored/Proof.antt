@@ -1,9 +1,8 @@
 -- `mirrored` meets its contract: after i turns the value has the first i bits of L, and the rest is L moved down by i. Assumes nothing.
 use mathlib.Core.Path.{_≡_, refl, sym, ap, _∙_}
-use Prim.Native.Nat.{ℕ, _-_, _/_, _^_, _≤_, _<_}
+use Prim.Native.Nat.{ℕ, _-_, _/_, _^_, _≤_}
 use native.Mathlib.Nat.{div-one}
 use native.Mathlib.Omega.{arith}
-use borrow.Author.Needs.{needs}
 use Rattle.permutation.proofs.RegisterL.{gathered, gathered-small, gather-more, gathered-all}
 use Rattle.permutation.proofs.register_l.mirrored.Statement.{statement}
 use Rattle.permutation.proofs.register_l.mirrored.Tie as tie

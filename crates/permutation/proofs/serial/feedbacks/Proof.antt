@@ -21,7 +21,7 @@ ready-of : (s : tie.Start) (half : ℕ) → half ≡ instanceOf (s .args .instan
 ready-of s half e = record { regular = regular (s .args .instance); full = s .pre .0; single = s .pre .1; is-half = e }
 
 half-of-requires : tie.Need-half-of-requires
-half-of-requires c κs = search needs
+half-of-requires c κs = tt
 
 add-b : tie.Need-add-b
 add-b c = search needs
@@ -45,7 +45,7 @@ part-y-end : tie.Need-part-y-end
 part-y-end c = search needs
 
 f-taps-requires : tie.Need-f-taps-requires
-f-taps-requires c κs = search needs
+f-taps-requires c κs = tt
 
 feedback-at-requires : tie.Need-feedback-at-requires
 feedback-at-requires c κs =
@@ -55,7 +55,7 @@ feedback-at-requires c κs =
     (λ k q. rw (c .f-taps .ensures, x-part R, w .0) (below (s .args .instance) .f-taps k q), λ k. rw (x-part R) (bits-at (w .1) k))
 
 g-taps-requires : tie.Need-g-taps-requires
-g-taps-requires c κs = search needs
+g-taps-requires c κs = tt
 
 feedback-at-requires-2 : tie.Need-feedback-at-requires-2
 feedback-at-requires-2 c κs =

@@ -17,7 +17,7 @@ cast-l0 : tie.Need-cast-l0
 cast-l0 c = search needs
 
 h-x-taps-requires : tie.Need-h-x-taps-requires
-h-x-taps-requires c κs = search needs
+h-x-taps-requires c κs = tt
 
 sum-at-requires : tie.Need-sum-at-requires
 sum-at-requires c κs =
@@ -26,7 +26,7 @@ sum-at-requires c κs =
     (e .0, (rw (e .1, s .pre .0 .0) (below (s .args .instance) .h-x), s .pre .1 .0))
 
 h-y-taps-requires : tie.Need-h-y-taps-requires
-h-y-taps-requires c κs = search needs
+h-y-taps-requires c κs = tt
 
 sum-at-requires-2 : tie.Need-sum-at-requires-2
 sum-at-requires-2 c κs =
@@ -35,7 +35,7 @@ sum-at-requires-2 c κs =
     (e .0, (rw (e .1, s .pre .0 .1) (below (s .args .instance) .h-y), s .pre .1 .1))
 
 product-taps-requires : tie.Need-product-taps-requires
-product-taps-requires c κs = search needs
+product-taps-requires c κs = tt
 
 shared-slice-read-y3 : tie.Need-shared-slice-read-y3
 shared-slice-read-y3 c = rw (c .before .product-taps .ensures .yLow, c .before .before .before .before .before .before .before .before .pre .0 .1) (below _ .y-low)

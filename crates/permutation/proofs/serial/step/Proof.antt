@@ -18,7 +18,7 @@ ready-of : (s : tie.Start) (half : ℕ) → half ≡ instanceOf (s .args .instan
 ready-of s half e = record { regular = regular (s .args .instance); full = s .pre .1 .0; single = s .pre .1 .1; is-half = e }
 
 half-of-requires : tie.Need-half-of-requires
-half-of-requires c κs = search needs
+half-of-requires c κs = tt
 
 add-b : tie.Need-add-b
 add-b c = search needs

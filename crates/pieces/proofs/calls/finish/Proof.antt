@@ -7,7 +7,7 @@ use Rattle.pieces.proofs.calls.finish.Statement.{statement}
 use Rattle.pieces.proofs.calls.finish.Tie as tie
 
 within-space-requires : tie.Need-within-space-requires
-within-space-requires c κs = search needs
+within-space-requires c κs = tt
 
 sub-finish : tie.Need-sub-finish
 sub-finish c = search needs
@@ -22,10 +22,10 @@ part-space-end c =
     omega arith
 
 finish-requires : tie.Need-finish-requires
-finish-requires c κs = search needs
+finish-requires c κs = tt
 
 with-reply-requires : tie.Need-with-reply-requires
-with-reply-requires c κs = search needs
+with-reply-requires c κs = tt
 
 returns : tie.Need-returns
 returns c = search needs

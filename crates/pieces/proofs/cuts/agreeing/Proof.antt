@@ -17,7 +17,7 @@ cut-agrees-requires : tie.Need-cut-agrees-requires Inv-loop μ-loop
 cut-agrees-requires c κs = search needs
 
 one-if-requires : tie.Need-one-if-requires Inv-loop μ-loop
-one-if-requires c κs = search needs
+one-if-requires c κs = tt
 
 add-count : tie.Need-add-count Inv-loop μ-loop
 add-count c = search needs

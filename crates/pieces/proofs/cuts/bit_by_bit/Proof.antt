@@ -11,7 +11,7 @@ abbrev μ-loop : tie.MeasureT-loop
 μ-loop instance message bits calls₀ i₀ calls i = bits - i
 
 init-requires : tie.Need-init-requires Inv-loop μ-loop
-init-requires c κs = search needs
+init-requires c κs = tt
 
 loop-holds : tie.Need-loop-holds Inv-loop μ-loop
 loop-holds c = search needs
@@ -20,10 +20,10 @@ part-requires : tie.Need-part-requires Inv-loop μ-loop
 part-requires c κs = search needs
 
 width-at-requires : tie.Need-width-at-requires Inv-loop μ-loop
-width-at-requires c κs = search needs
+width-at-requires c κs = tt
 
 absorb-requires : tie.Need-absorb-requires Inv-loop μ-loop
-absorb-requires c κs = search needs
+absorb-requires c κs = tt
 
 add-i : tie.Need-add-i Inv-loop μ-loop
 add-i c = search needs
@@ -35,10 +35,10 @@ loop-again : tie.Need-loop-again Inv-loop μ-loop
 loop-again c = search needs
 
 digest-bytes-requires : tie.Need-digest-bytes-requires Inv-loop μ-loop
-digest-bytes-requires c κs = search needs
+digest-bytes-requires c κs = tt
 
 finish-requires : tie.Need-finish-requires Inv-loop μ-loop
-finish-requires c κs = search needs
+finish-requires c κs = tt
 
 returns : tie.Need-returns Inv-loop μ-loop
 returns c = search needs

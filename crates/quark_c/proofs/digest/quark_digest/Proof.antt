@@ -6,10 +6,10 @@ use Rattle.quark_c.proofs.digest.quark_digest.Statement.{statement}
 use Rattle.quark_c.proofs.digest.quark_digest.Tie as tie
 
 digest-requires : tie.Need-digest-requires
-digest-requires c κs = search needs
+digest-requires c κs = tt
 
 number-of-requires : tie.Need-number-of-requires
-number-of-requires c κs = search needs
+number-of-requires c κs = tt
 
 same-length : tie.Need-same-length
 same-length c = search needs

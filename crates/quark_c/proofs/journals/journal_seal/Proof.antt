@@ -6,10 +6,10 @@ use Rattle.quark_c.proofs.journals.journal_seal.Statement.{statement}
 use Rattle.quark_c.proofs.journals.journal_seal.Tie as tie
 
 seal-requires : tie.Need-seal-requires
-seal-requires c κs = search needs
+seal-requires c κs = tt
 
 number-of-sealed-requires : tie.Need-number-of-sealed-requires
-number-of-sealed-requires c κs = search needs
+number-of-sealed-requires c κs = tt
 
 same-length : tie.Need-same-length
 same-length c = search needs

@@ -1,11 +1,10 @@
 -- `fresh` meets its contract. Assumes nothing.
-use borrow.Author.Needs.{needs}
 use Rattle.sponge.specs.Soundness.{fresh, stateWith}
 use Rattle.sponge.proofs.fresh.fresh.Statement.{statement}
 use Rattle.sponge.proofs.fresh.fresh.Tie as tie
 
 initial-requires : tie.Need-initial-requires
-initial-requires c κs = search needs
+initial-requires c κs = tt
 
 returns : tie.Need-returns
 unfolding fresh stateWith

@@ -4,7 +4,6 @@ use mathlib.Core.Bool.{not}
 use Prim.Native.Nat.{ℕ, _+_, _-_, _%_, _<_, _≤_}
 use native.Mathlib.Nat.{mod-lt}
 use native.Mathlib.Omega.{arith}
-use borrow.Author.Needs.{needs}
 use lib.Dec.{eqb}
 use Rattle.quark.proofs.Instance.{regular}
 use Rattle.sponge.specs.Outcomes.{line8}
@@ -20,7 +19,7 @@ small c =
     (mod-lt (c .before .args .total) some, omega (arith, R .rate-fits, R .at-most-256))
 
 rate-requires : tie.Need-rate-requires
-rate-requires c κs = search needs
+rate-requires c κs = tt
 
 rem-taken : tie.Need-rem-taken
 rem-taken c = omega (arith, small c)

@@ -25,7 +25,7 @@ within c =
     omega (arith, c .before .place-of .ensures, place-lt (instanceOf (s .instance)) (regular (s .instance)) (s .total))
 
 place-of-requires : tie.Need-place-of-requires
-place-of-requires c κs = search needs
+place-of-requires c κs = tt
 
 array-read-bits : tie.Need-array-read-bits
 array-read-bits c = omega (arith, within c, regular (c .before .before .args .state .instance) .at-most-256)
@@ -43,7 +43,7 @@ array-write-bits : tie.Need-array-write-bits
 array-write-bits c = omega (arith, within c, regular (c .before .before .args .state .instance) .at-most-256)
 
 with-bits-requires : tie.Need-with-bits-requires
-with-bits-requires c κs = search needs
+with-bits-requires c κs = tt
 
 returns : tie.Need-returns
 unfolding withSponge stateWith addBit contentOf

@@ -28,7 +28,7 @@ front c =
     omega (arith, c .state-bytes .ensures, regular (s .instance) .at-most-256)
 
 state-bytes-requires : tie.Need-state-bytes-requires
-state-bytes-requires c κs = search needs
+state-bytes-requires c κs = tt
 
 array-borrow-prefix-bits : tie.Need-array-borrow-prefix-bits
 array-borrow-prefix-bits c = front (c .before)
@@ -37,7 +37,7 @@ slice-aggregate-permute : tie.Need-slice-aggregate-permute
 slice-aggregate-permute c = sym (length-take-le _ _ (front (c .before .before)))
 
 permute-requires : tie.Need-permute-requires
-permute-requires c κs = search needs
+permute-requires c κs = tt
 
 add-t8 : tie.Need-add-t8
 add-t8 c = omega (arith, c .before .before .before .before .before .before .pre .1)

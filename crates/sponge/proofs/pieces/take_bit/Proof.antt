@@ -30,7 +30,7 @@ cast-if1 : tie.Need-cast-if1
 cast-if1 c = search needs
 
 rate-requires : tie.Need-rate-requires
-rate-requires c κs = search needs
+rate-requires c κs = tt
 
 rem-if1 : tie.Need-rem-if1
 rem-if1 c = omega (arith, regular (c .before .before .before .before .args .state .instance) .some-rate)

@@ -2,7 +2,6 @@
 use Prim.Native.Nat.{_<_}
 use native.Mathlib.Nat.{mod-lt}
 use native.Mathlib.Omega.{arith}
-use borrow.Author.Needs.{needs}
 use Rattle.quark.proofs.Instance.{regular}
 use Rattle.permutation.specs.Lines.{stateBytes}
 use Rattle.sponge.specs.Taking.{place}
@@ -10,10 +9,10 @@ use Rattle.sponge.proofs.place.place_of.Statement.{statement}
 use Rattle.sponge.proofs.place.place_of.Tie as tie
 
 rate-requires : tie.Need-rate-requires
-rate-requires c κs = search needs
+rate-requires c κs = tt
 
 state-bytes-requires : tie.Need-state-bytes-requires
-state-bytes-requires c κs = search needs
+state-bytes-requires c κs = tt
 
 mul-result : tie.Need-mul-result
 unfolding stateBytes

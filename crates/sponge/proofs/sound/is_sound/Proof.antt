@@ -34,10 +34,10 @@ unfolding sound
 returns c = simp (lt-leb _ _ (c .if1 .taken))
 
 state-bytes-requires : tie.Need-state-bytes-requires
-state-bytes-requires c κs = search needs
+state-bytes-requires c κs = tt
 
 zero-from-requires : tie.Need-zero-from-requires
-zero-from-requires c κs = search needs
+zero-from-requires c κs = tt
 
 returns-2 : tie.Need-returns-2
 unfolding sound stateBytes
@@ -53,7 +53,7 @@ cast-runs : tie.Need-cast-runs
 cast-runs c = search needs
 
 sound-runs-requires : tie.Need-sound-runs-requires
-sound-runs-requires c κs = search needs
+sound-runs-requires c κs = tt
 
 returns-3 : tie.Need-returns-3
 unfolding sound
@@ -75,7 +75,7 @@ returns-4 c =
     )
 
 is-closed-requires : tie.Need-is-closed-requires
-is-closed-requires c κs = search needs
+is-closed-requires c κs = tt
 
 returns-5 : tie.Need-returns-5
 unfolding sound

@@ -3,7 +3,6 @@ use mathlib.Core.Path.{ap₂}
 use Prim.Native.Nat.{ℕ, _+_, _/_}
 use native.Mathlib.Nat.{div-le-self}
 use native.Mathlib.Omega.{arith}
-use borrow.Author.Needs.{needs}
 use borrow.Author.Tests.{eq-eqb, ne-eqb}
 use Rattle.quark.proofs.Instance.{regular}
 use Rattle.sponge.specs.Soundness.{soundRuns}
@@ -12,7 +11,7 @@ use Rattle.sponge.proofs.sound.sound_runs.Statement.{statement}
 use Rattle.sponge.proofs.sound.sound_runs.Tie as tie
 
 rate-requires : tie.Need-rate-requires
-rate-requires c κs = search needs
+rate-requires c κs = tt
 
 div-blocks : tie.Need-div-blocks
 div-blocks c = omega (arith, regular (c .before .args .instance) .some-rate)
@@ -22,7 +21,7 @@ unfolding soundRuns
 returns c = simp (eq-eqb _ _ (c .if1 .taken), ← c .before .rate .ensures)
 
 outputs-requires : tie.Need-outputs-requires
-outputs-requires c κs = search needs
+outputs-requires c κs = tt
 
 add-result : tie.Need-add-result
 add-result c =

@@ -40,10 +40,10 @@ returns c =
     ∙ ap₂ (λ (l : List ℕ) (m : ℕ). paste (now (a .buffer)) (a .at) l m) same (ap length same ∙ last-size (s .instance) (s .bits) n)
 
 state-bytes-requires : tie.Need-state-bytes-requires
-state-bytes-requires c κs = search needs
+state-bytes-requires c κs = tt
 
 rate-requires : tie.Need-rate-requires
-rate-requires c κs = search needs
+rate-requires c κs = tt
 
 sub-from : tie.Need-sub-from
 unfolding stateBytes

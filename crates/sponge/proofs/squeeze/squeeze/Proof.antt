@@ -30,10 +30,10 @@ room : (c : tie.In-loop Inv-loop μ-loop) → let s = c .before .before .before 
 room c = given-room _ _ _ _ _ _ (c .before .loop .inv .1) (omega (arith, c .before .before .before .before .before .before .outputs .ensures, c .loop-test .taken))
 
 rate-requires : tie.Need-rate-requires Inv-loop μ-loop
-rate-requires c κs = search needs
+rate-requires c κs = tt
 
 outputs-requires : tie.Need-outputs-requires Inv-loop μ-loop
-outputs-requires c κs = search needs
+outputs-requires c κs = tt
 
 give-requires : tie.Need-give-requires Inv-loop μ-loop
 unfolding stateBytes
