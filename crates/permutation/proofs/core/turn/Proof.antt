@@ -2,16 +2,15 @@
 use mathlib.Core.Path.{_≡_, ap, _∙_}
 use Prim.Native.Nat.{ℕ, _%_}
 use native.Mathlib.Omega.{arith}
-use borrow.Author.Needs.{needs}
 use Rattle.quark.specs.Instance.{instanceOf}
-use Rattle.permutation.specs.leaf.Words.{Turns}
-use Rattle.permutation.proofs.Turn.{ran-P, undone-P}
+use Rattle.words.specs.leaf.Turns.{Turns}
+use Rattle.permutation.proofs.Turn.{ran-all, undone-all}
 use Rattle.permutation.proofs.Widths.{several, rounds-whole}
 use Rattle.permutation.proofs.core.turn.Statement.{statement}
 use Rattle.permutation.proofs.core.turn.Tie as tie
 
 rounds-requires : tie.Need-rounds-requires
-rounds-requires c κs = search needs
+rounds-requires c κs = tt
 
 -- one step at a time
 undo-requires : tie.Need-undo-requires
@@ -20,7 +19,11 @@ undo-requires c κs =
     (omega arith, (given .0, given .1 .0))
 
 returns : tie.Need-returns
-returns c = cc (undone-P (instanceOf (c .before .before .before .before .before .args .instance)) (c .before .before .before .before .before .args .bits .now))
+returns c =
+    let branch = c .before .before in
+    let counted = branch .before .before in
+    let a = counted .before .args in
+    undone-all (instanceOf (a .instance)) (a .bits .now) (counted .rounds .result) (a .inverse) (counted .rounds .ensures) (branch .if2 .taken) (c .undo .ensures)
 
 run-requires : tie.Need-run-requires
 run-requires c κs =
@@ -28,7 +31,11 @@ run-requires c κs =
     (omega arith, (given .0, given .1 .0))
 
 returns-2 : tie.Need-returns-2
-returns-2 c = cc (ran-P (instanceOf (c .before .before .before .before .before .args .instance)) (c .before .before .before .before .before .args .bits .now))
+returns-2 c =
+    let branch = c .before .before in
+    let counted = branch .before .before in
+    let a = counted .before .args in
+    ran-all (instanceOf (a .instance)) (a .bits .now) (counted .rounds .result) (a .inverse) (counted .rounds .ensures) (branch .if2 .left) (c .run .ensures)
 
 -- several: P's steps are whole turns
 whole : (c : tie.Else1) → Turns (c .before .before .args .instance) (c .before .before .args .width) × (c .before .rounds .result % c .before .before .args .width ≡ 0)
@@ -46,7 +53,11 @@ undo-requires-2 c κs =
     (whole several .0, omega arith, whole several .1, start .pre .0, start .pre .1 .0)
 
 returns-3 : tie.Need-returns-3
-returns-3 c = cc (undone-P (instanceOf (c .before .before .before .before .before .args .instance)) (c .before .before .before .before .before .args .bits .now))
+returns-3 c =
+    let branch = c .before .before in
+    let counted = branch .before .before in
+    let a = counted .before .args in
+    undone-all (instanceOf (a .instance)) (a .bits .now) (counted .rounds .result) (a .inverse) (counted .rounds .ensures) (branch .if3 .taken) (c .undo2 .ensures)
 
 run-requires-2 : tie.Need-run-requires-2
 run-requires-2 c κs =
@@ -55,7 +66,11 @@ run-requires-2 c κs =
     (whole several .0, omega arith, whole several .1, start .pre .0, start .pre .1 .0)
 
 returns-4 : tie.Need-returns-4
-returns-4 c = cc (ran-P (instanceOf (c .before .before .before .before .before .args .instance)) (c .before .before .before .before .before .args .bits .now))
+returns-4 c =
+    let branch = c .before .before in
+    let counted = branch .before .before in
+    let a = counted .before .args in
+    ran-all (instanceOf (a .instance)) (a .bits .now) (counted .rounds .result) (a .inverse) (counted .rounds .ensures) (branch .if3 .left) (c .run2 .ensures)
 
 pub turn-spec : {M : Type 1} → statement M
 turn-spec = tie.close (tie.spec rounds-requires undo-requires returns run-requires returns-2 undo-requires-2 returns-3 run-requires-2 returns-4)
