@@ -9,11 +9,17 @@ use lib.ListN.{length, getD, take, drop, set, length-append, length-drop, take-a
 use lib.Pow.{pow-add}
 use lib.Seq.{drop-cons, set-at, length-take-le, drop-drop, drop-at, take-at}
 use Rattle.quark.specs.Feedback.{Taps}
-use Rattle.quark.specs.Step.{loaded, stored}
+use Rattle.quark.specs.Instance.{Instance}
+use Rattle.quark.specs.Inverse.{undoSteps}
+use Rattle.quark.specs.Step.{Registers, steps, stepsL, loaded, stored}
 use Rattle.quark.specs.leaf.Word.{wordBit, wordBits}
 use Rattle.quark.proofs.Together.{registers-path}
 use Rattle.quark.proofs.Word.{length-wordBits, append-wordBits, cons-wordBits, snoc-wordBits}
-use Rattle.permutation.specs.leaf.Words.{written, wordRegisters}
+use Rattle.words.specs.declared.Register.{Register}
+use Rattle.words.specs.declared.State.{State}
+use Rattle.words.specs.Words.{value, wordRegisters, afterL, Stepped, Undone}
+use Rattle.permutation.specs.leaf.Core.{ran, undone}
+use Rattle.permutation.specs.leaf.Several.{written}
 
 -- r holds the k bits of s from place p on
 abbrev pub Holds : List ℕ → (k p r : ℕ) → Type 0
@@ -98,11 +104,12 @@ take-take a c s h = ap (take a) (sym (take-take-drop a c s)) ∙ take-at (take a
 drop-take : (a c : ℕ) (s : List ℕ) → a ≤ length s → drop a (take (a + c) s) ≡ take c (drop a s)
 drop-take a c s h = ap (drop a) (sym (take-take-drop a c s)) ∙ drop-at (take a s) (take c (drop a s)) a (length-take-le a s h)
 
--- cells that hold X and then Y are the registers that the words hold
-pub loaded-words : (T : Taps) (s : List ℕ) (b x y l : ℕ) → b ≡ T .half + T .half → b ≤ length s → wordBits (T .half) x ≡ take (T .half) (drop 0 s)
-    → wordBits (T .half) y ≡ take (T .half) (drop (T .half) s) → loaded T (take b s) (wordBits 10 l) ≡ wordRegisters T x y l
-unfolding loaded wordRegisters
-loaded-words T s b x y l e h ex ey =
+-- cells that hold X and then Y, with L beside them, are the registers that the words hold
+pub loaded-words : (T : Taps) (s : List ℕ) (b x y : ℕ) (L : List ℕ) → b ≡ T .half + T .half → b ≤ length s
+    → wordBits (T .half) x ≡ take (T .half) (drop 0 s) → wordBits (T .half) y ≡ take (T .half) (drop (T .half) s)
+    → loaded T (take b s) L ≡ record { X = wordBits (T .half) x; Y = wordBits (T .half) y; L = L }
+unfolding loaded
+loaded-words T s b x y L e h ex ey =
     registers-path (ap (λ (n : ℕ). take (T .half) (take n s)) e ∙ take-take (T .half) (T .half) s (omega arith) ∙ sym ex)
     (ap (λ (n : ℕ). drop (T .half) (take n s)) e ∙ drop-take (T .half) (T .half) s (omega arith) ∙ sym ey) refl
 
@@ -115,3 +122,24 @@ stored-words T s b x y l e h less =
     ap (λ (n : ℕ). written (written s 0 half x) n half y) (sym (zero-add half))
     ∙ written-words s half half 0 y x (rw zero-add (omega arith)) less
     ∙ ap₂ (λ (r : List ℕ) (n : ℕ). r ++ drop n s) (words-append half half y x less) (zero-add (half + half) ∙ sym e)
+
+module _ (I : Instance) (s : List ℕ) (e : I .b ≡ I .taps .half + I .taps .half) (long : I .b ≤ length s) (x y : Register) (l n : ℕ) (t : State)
+    (ex : wordBits (I .taps .half) (value x) ≡ take (I .taps .half) (drop 0 s)) (ey : wordBits (I .taps .half) (value y) ≡ take (I .taps .half) (drop (I .taps .half) s)) where
+  -- words that were loaded, taken n steps and written back
+  pub ran-words : Stepped (I .taps) n x y l t
+      → written (written s 0 (I .taps .half) (value (t .x))) (I .taps .half) (I .taps .half) (value (t .y)) ≡ ran I l n s
+  unfolding ran wordRegisters
+  ran-words a =
+      stored-words (I .taps) s (I .b) (value (t .x)) (value (t .y)) (t .l) e long (a .fitting .fitsX)
+      ∙ ap (λ (r : Registers). stored r ++ drop (I .b) s)
+      (a .stepped ∙ ap (steps (I .taps) n) (sym (loaded-words (I .taps) s (I .b) (value x) (value y) (wordBits 10 l) e long ex ey)))
+
+  -- words that were loaded, taken n steps back and written back
+  pub undone-words : Undone (I .taps) n x y l t
+      → written (written s 0 (I .taps .half) (value (t .x))) (I .taps .half) (I .taps .half) (value (t .y)) ≡ undone I l n s
+  unfolding undone afterL
+  undone-words a =
+      stored-words (I .taps) s (I .b) (value (t .x)) (value (t .y)) (t .l) e long (a .fitting .fitsX)
+      ∙ ap (λ (r : Registers). stored r ++ drop (I .b) s)
+      (a .undone
+      ∙ ap (undoSteps (I .taps) n) (sym (loaded-words (I .taps) s (I .b) (value x) (value y) (stepsL n (wordBits 10 l)) e long ex ey)))

@@ -1,33 +1,13 @@
--- The instance of a number that the code has tested, and the taps that the serial form reads: all below the half. Assumes nothing.
-use mathlib.Core.Bool.{Bool, cond}
-use mathlib.Core.Path.{_≡_, ap, ap₂}
+-- The taps that the serial form reads: all below the half. Assumes nothing.
 use mathlib.Core.List.{[], _∷_}
 use Prim.Native.Nat.{ℕ, _+_, _≤_, _<_}
 use native.Mathlib.Omega.{arith}
-use lib.Dec.{eqb}
 use lib.ListN.{length, getD}
-use borrow.Author.Tests.{ne-eqb}
 use Rattle.quark.specs.Feedback.{Taps, exchange}
 use Rattle.quark.specs.Instance.{U, D, S, instanceOf}
 use Rattle.quark.proofs.Taps.{all-at, all-left, all-right, Lawful, Reach, reach-less, lawful-U, lawful-D, lawful-S}
 use Rattle.quark.proofs.Feedback.{length-exchange, all-exchange}
 use Rattle.quark.proofs.Instance.{of-each, regular}
-
--- ---- the instance of a number that was tested
-
-pub is-U : (i : ℕ) → i ≡ 1 → instanceOf i ≡ U
-unfolding instanceOf
-is-U i e = ap (λ (k : ℕ). cond (eqb k 1) U (cond (eqb k 2) D S)) e
-
-pub is-D : (i : ℕ) → i ≡ 2 → instanceOf i ≡ D
-unfolding instanceOf
-is-D i e = ap (λ (k : ℕ). cond (eqb k 1) U (cond (eqb k 2) D S)) e
-
-pub is-S : (i : ℕ) → (i ≡ 1 → ⊥) → (i ≡ 2 → ⊥) → instanceOf i ≡ S
-unfolding instanceOf
-is-S i p q = ap₂ (λ (a b : Bool). cond a U (cond b D S)) (ne-eqb i 1 p) (ne-eqb i 2 q)
-
--- ---- the taps
 
 -- every tap that the code reads is below the half
 pub record Below (T : Taps) : Type 0 where

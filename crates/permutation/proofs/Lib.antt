@@ -9,17 +9,5 @@ pub mod SerialSteps
 pub mod Accepted
 pub mod Turn
 pub mod Weights
-pub mod Sums
-pub mod WordTurns
-pub mod LSequence
-pub mod LStrides
-pub mod LBack
-pub mod Feeds
-pub mod TwoWords
 pub mod CellWords
 pub mod Widths
-pub mod MovedUp
-pub mod NearTaps
-pub mod Settled
-pub mod BackSteps
-pub mod TurnsBack

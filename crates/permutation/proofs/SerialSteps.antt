@@ -14,8 +14,8 @@ use Rattle.quark.specs.Inverse.{unshift, gained, undoStepL, undoStep}
 use Rattle.quark.specs.Instance.{Instance}
 use Rattle.quark.specs.leaf.Word.{wordBits}
 use Rattle.quark.specs.leaf.Together.{gainX, gainY}
-use Rattle.quark.proofs.Bits.{Bits, none, more, Wide, parity-lt, bits-append, bits-take, bits-drop, bits-at, bits-of}
-use Rattle.quark.proofs.Word.{length-wordBits}
+use Rattle.quark.proofs.Bits.{Bits, more, Wide, parity-lt, bits-append, bits-take, bits-drop, bits-at, bits-of}
+use Rattle.quark.proofs.Word.{wide-wordBits}
 use Rattle.quark.proofs.Together.{registers-path}
 use Rattle.quark.proofs.Inverse.{Sized, sized-loaded, sized-step, sized-undoStep}
 use Rattle.quark.proofs.Instance.{Regular}
@@ -39,14 +39,6 @@ h-small T X Y L = parity-lt _
 pub gained-small : {X : List ℕ} → Bits X → gained X < 2
 unfolding gained
 gained-small {X} p = bits-at p (length X - 1)
-
-bits-wordBits : (k n : ℕ) → Bits (wordBits k n)
-unfolding wordBits
-bits-wordBits zero n = none
-bits-wordBits (suc k) n = more (parity-lt n) (bits-wordBits k (n / 2))
-
-pub wide-wordBits : (k n : ℕ) → Wide k (wordBits k n)
-wide-wordBits k n = (length-wordBits k n, bits-wordBits k n)
 
 -- a register with 0 for the bit that a step dropped
 wide-zero : {n : ℕ} {r : List ℕ} → 0 < n → Wide n r → Wide n (unshift 0 r)

@@ -20,22 +20,24 @@ use Rattle.permutation.specs.Permute.{onBytes}
 use Rattle.permutation.specs.leaf.Core.{Cells, ran, undone, turned}
 
 -- all ones, and 4b steps: P and its inverse
-module _ (I : Instance) (cells : List ℕ) where
-  pub ran-P : ran I 1023 (rounds (I .taps)) cells ≡ turned false (I .taps) (take (I .b) cells) ++ drop (I .b) cells
-  unfolding ran turned P allOnes wordBits
-  ran-P = refl
+ran-P : (I : Instance) (cells : List ℕ) → ran I 1023 (rounds (I .taps)) cells ≡ turned false (I .taps) (take (I .b) cells) ++ drop (I .b) cells
+unfolding ran turned P allOnes wordBits
+ran-P I cells = refl
 
-  pub undone-P : undone I 1023 (rounds (I .taps)) cells ≡ turned true (I .taps) (take (I .b) cells) ++ drop (I .b) cells
-  unfolding undone turned undoP allOnes wordBits
-  undone-P = refl
+undone-P : (I : Instance) (cells : List ℕ) → undone I 1023 (rounds (I .taps)) cells ≡ turned true (I .taps) (take (I .b) cells) ++ drop (I .b) cells
+unfolding undone turned undoP allOnes wordBits
+undone-P I cells = refl
 
-  -- the same where a test and a count say so
-  module _ (inverse : Bool) (count : ℕ) (all : count ≡ rounds (I .taps)) (after : List ℕ) where
-    pub run-turns : inverse ≡ false → after ≡ ran I 1023 count cells → after ≡ turned inverse (I .taps) (take (I .b) cells) ++ drop (I .b) cells
-    run-turns test e = cc ran-P
+-- what a core leaves, once its count is known to be 4b
+pub ran-all : (I : Instance) (cells : List ℕ) (n : ℕ) (inverse : Bool) {left : List ℕ} → n ≡ rounds (I .taps) → inverse ≡ false → left ≡ ran I 1023 n cells
+    → left ≡ turned inverse (I .taps) (take (I .b) cells) ++ drop (I .b) cells
+ran-all I cells n inverse en ei e =
+    e ∙ ap (λ (k : ℕ). ran I 1023 k cells) en ∙ ran-P I cells ∙ ap (λ (i : Bool). turned i (I .taps) (take (I .b) cells) ++ drop (I .b) cells) (sym ei)
 
-    pub undo-turns : inverse ≡ true → after ≡ undone I 1023 count cells → after ≡ turned inverse (I .taps) (take (I .b) cells) ++ drop (I .b) cells
-    undo-turns test e = cc undone-P
+pub undone-all : (I : Instance) (cells : List ℕ) (n : ℕ) (inverse : Bool) {left : List ℕ} → n ≡ rounds (I .taps) → inverse ≡ true → left ≡ undone I 1023 n cells
+    → left ≡ turned inverse (I .taps) (take (I .b) cells) ++ drop (I .b) cells
+undone-all I cells n inverse en ei e =
+    e ∙ ap (λ (k : ℕ). undone I 1023 k cells) en ∙ undone-P I cells ∙ ap (λ (i : Bool). turned i (I .taps) (take (I .b) cells) ++ drop (I .b) cells) (sym ei)
 
 -- bytes of bits that others stand behind
 byte-append : (s t : List ℕ) (j : ℕ) → 8 * j + 8 ≤ length s → byteAt (s ++ t) j ≡ byteAt s j

@@ -8,15 +8,8 @@ use lib.Dec.{eqb, lit≤}
 use Rattle.quark.specs.Step.{rounds}
 use Rattle.quark.specs.Instance.{U, D, S, instanceOf}
 use Rattle.quark.proofs.Instance.{of-each}
+use Rattle.words.specs.leaf.Turns.{Turns}
 use Rattle.permutation.specs.Lines.{isWidth}
-use Rattle.permutation.specs.leaf.Words.{Width, Turns}
-
--- the widths of the instances: U and D have 8 alone
-pub eight-alone : (i w : ℕ) → (i ≡ 3 → ⊥) → Turns i w → w ≡ 8
-eight-alone i w n = ⊎-elim (λ e. e) (λ e. absurd (n (e .0)))
-
-pub some-width : (i w : ℕ) → Turns i w → Width w
-some-width i w = ⊎-elim inl (λ e. inr (e .1))
 
 -- the bits of a half and of a state, as the cells have them
 pub half-fits : (i : ℕ) → (64 ≤ instanceOf i .taps .half) × (instanceOf i .b ≡ instanceOf i .taps .half + instanceOf i .taps .half) × (instanceOf i .b ≤ 256)

@@ -1,4 +1,4 @@
 -- Forms that only the contracts of private functions cite.
 pub mod Core
 pub mod Serial
-pub mod Words
+pub mod Several

@@ -15,8 +15,7 @@ use crate::Refusal;
 use crate::bytes;
 use crate::lines;
 use crate::serial;
-use crate::words;
-use crate::words_back;
+use crate::several;
 
 // L at the start of P.
 pub const ALL_ONES: u32 = 1023;
@@ -50,9 +49,9 @@ pub fn turn(inverse: bool, bits: &mut [u8; 256], instance: u32, width: u32)
         return serial::run(bits, instance, ALL_ONES, count);
     }
     if inverse {
-        return words_back::undo(bits, instance, width, ALL_ONES, count);
+        return several::undo(bits, instance, width, ALL_ONES, count);
     }
-    words::run(bits, instance, width, ALL_ONES, count)
+    several::run(bits, instance, width, ALL_ONES, count)
 }
 
 // Overwrites the bits of an instance's state by P of them, or by P's inverse.

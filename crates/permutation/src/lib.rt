@@ -9,16 +9,11 @@ ghost use Rattle.permutation.specs.Lfsr.{lfsrAfter};
 
 mod bytes;
 mod core;
-mod feedback;
 pub mod lines;
-mod masks;
 mod register_l;
-mod registers;
 mod serial;
-mod strides;
+mod several;
 mod taps;
-mod words;
-mod words_back;
 
 // Why a call was refused: the number of the first line of document 01 that holds, and a place, which is 0 outside of a journal.
 pub struct Refusal {

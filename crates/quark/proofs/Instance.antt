@@ -2,8 +2,9 @@
 -- Assumes nothing.
 use mathlib.Core.Bool.{Bool, true, false, cond}
 use mathlib.Core.List.{List, [], _∷_}
-use mathlib.Core.Path.{_≡_, sym, subst}
+use mathlib.Core.Path.{_≡_, sym, ap, ap₂, subst}
 use Prim.Native.Nat.{ℕ, _*_, _/_, _<_, _≤_}
+use borrow.Author.Tests.{ne-eqb}
 use lib.Dec.{T, leb, ltb, eqb, leb→le, eqb→eq}
 use Rattle.quark.specs.Step.{P}
 use Rattle.quark.specs.Inverse.{undoP}
@@ -73,6 +74,19 @@ of-each F u d s i = first (eqb i 1) (eqb i 2)
 
 pub regular : (i : ℕ) → Regular (instanceOf i)
 regular = of-each Regular regular-U regular-D regular-S
+
+-- the instance of a number that was tested
+pub is-U : (i : ℕ) → i ≡ 1 → instanceOf i ≡ U
+unfolding instanceOf
+is-U i e = ap (λ (k : ℕ). cond (eqb k 1) U (cond (eqb k 2) D S)) e
+
+pub is-D : (i : ℕ) → i ≡ 2 → instanceOf i ≡ D
+unfolding instanceOf
+is-D i e = ap (λ (k : ℕ). cond (eqb k 1) U (cond (eqb k 2) D S)) e
+
+pub is-S : (i : ℕ) → (i ≡ 1 → ⊥) → (i ≡ 2 → ⊥) → instanceOf i ≡ S
+unfolding instanceOf
+is-S i p q = ap₂ (λ (a b : Bool). cond a U (cond b D S)) (ne-eqb i 1 p) (ne-eqb i 2 q)
 
 -- P and its inverse, on the b bits of a regular instance
 module _ (I : Instance) (R : Regular I) (s : List ℕ) (w : Wide (I .b) s) where

@@ -9,6 +9,7 @@ use lib.Pow.{shr-shr, shr-lt, field, mod-mod-pow}
 use lib.Bits.{bitAnd, bitXor, differ, and-step, xor-step, and-shr, xor-shr, block-half, block-odd}
 use lib.ListN.{length, getD, drop}
 use Rattle.quark.specs.leaf.Word.{wordBit, wordBits}
+use Rattle.quark.proofs.Bits.{Bits, none, more, Wide, parity-lt}
 
 -- ---- one bit
 
@@ -93,6 +94,14 @@ pub length-wordBits : (k n : ℕ) → length (wordBits k n) ≡ k
 unfolding wordBits
 length-wordBits zero n = refl
 length-wordBits (suc k) n = ap suc (length-wordBits k (n / 2))
+
+bits-wordBits : (k n : ℕ) → Bits (wordBits k n)
+unfolding wordBits
+bits-wordBits zero n = none
+bits-wordBits (suc k) n = more (parity-lt n) (bits-wordBits k (n / 2))
+
+pub wide-wordBits : (k n : ℕ) → Wide k (wordBits k n)
+wide-wordBits k n = (length-wordBits k n, bits-wordBits k n)
 
 pub getD-wordBits : (k n i : ℕ) → i < k → getD (wordBits k n) i 0 ≡ wordBit n i
 unfolding wordBits

@@ -3,8 +3,8 @@ use mathlib.Core.Path.{_≡_, ap, _∙_}
 use Prim.Native.Nat.{ℕ, _%_}
 use native.Mathlib.Omega.{arith}
 use Rattle.quark.specs.Instance.{instanceOf}
-use Rattle.permutation.specs.leaf.Words.{Turns}
-use Rattle.permutation.proofs.Turn.{run-turns, undo-turns}
+use Rattle.words.specs.leaf.Turns.{Turns}
+use Rattle.permutation.proofs.Turn.{ran-all, undone-all}
 use Rattle.permutation.proofs.Widths.{several, rounds-whole}
 use Rattle.permutation.proofs.core.turn.Statement.{statement}
 use Rattle.permutation.proofs.core.turn.Tie as tie
@@ -20,9 +20,10 @@ undo-requires c κs =
 
 returns : tie.Need-returns
 returns c =
-    let counted = c .before .before .before .before in
-    let start = counted .before .args in
-    undo-turns (instanceOf (start .instance)) (start .bits .now) (start .inverse) (counted .rounds .result) (counted .rounds .ensures) (c .undo .last .0) (c .before .before .if2 .taken) (c .undo .ensures)
+    let branch = c .before .before in
+    let counted = branch .before .before in
+    let a = counted .before .args in
+    undone-all (instanceOf (a .instance)) (a .bits .now) (counted .rounds .result) (a .inverse) (counted .rounds .ensures) (branch .if2 .taken) (c .undo .ensures)
 
 run-requires : tie.Need-run-requires
 run-requires c κs =
@@ -31,9 +32,10 @@ run-requires c κs =
 
 returns-2 : tie.Need-returns-2
 returns-2 c =
-    let counted = c .before .before .before .before in
-    let start = counted .before .args in
-    run-turns (instanceOf (start .instance)) (start .bits .now) (start .inverse) (counted .rounds .result) (counted .rounds .ensures) (c .run .last .0) (c .before .before .if2 .left) (c .run .ensures)
+    let branch = c .before .before in
+    let counted = branch .before .before in
+    let a = counted .before .args in
+    ran-all (instanceOf (a .instance)) (a .bits .now) (counted .rounds .result) (a .inverse) (counted .rounds .ensures) (branch .if2 .left) (c .run .ensures)
 
 -- several: P's steps are whole turns
 whole : (c : tie.Else1) → Turns (c .before .before .args .instance) (c .before .before .args .width) × (c .before .rounds .result % c .before .before .args .width ≡ 0)
@@ -52,9 +54,10 @@ undo-requires-2 c κs =
 
 returns-3 : tie.Need-returns-3
 returns-3 c =
-    let counted = c .before .before .before .before in
-    let start = counted .before .args in
-    undo-turns (instanceOf (start .instance)) (start .bits .now) (start .inverse) (counted .rounds .result) (counted .rounds .ensures) (c .undo2 .last .0) (c .before .before .if3 .taken) (c .undo2 .ensures)
+    let branch = c .before .before in
+    let counted = branch .before .before in
+    let a = counted .before .args in
+    undone-all (instanceOf (a .instance)) (a .bits .now) (counted .rounds .result) (a .inverse) (counted .rounds .ensures) (branch .if3 .taken) (c .undo2 .ensures)
 
 run-requires-2 : tie.Need-run-requires-2
 run-requires-2 c κs =
@@ -64,9 +67,10 @@ run-requires-2 c κs =
 
 returns-4 : tie.Need-returns-4
 returns-4 c =
-    let counted = c .before .before .before .before in
-    let start = counted .before .args in
-    run-turns (instanceOf (start .instance)) (start .bits .now) (start .inverse) (counted .rounds .result) (counted .rounds .ensures) (c .run2 .last .0) (c .before .before .if3 .left) (c .run2 .ensures)
+    let branch = c .before .before in
+    let counted = branch .before .before in
+    let a = counted .before .args in
+    ran-all (instanceOf (a .instance)) (a .bits .now) (counted .rounds .result) (a .inverse) (counted .rounds .ensures) (branch .if3 .left) (c .run2 .ensures)
 
 pub turn-spec : {M : Type 1} → statement M
 turn-spec = tie.close (tie.spec rounds-requires undo-requires returns run-requires returns-2 undo-requires-2 returns-3 run-requires-2 returns-4)

@@ -2,7 +2,7 @@
 use mathlib.Core.Path.{refl}
 use Rattle.quark.specs.Feedback.{exchange}
 use Rattle.quark.specs.Instance.{U, D, S}
-use Rattle.permutation.proofs.Instances.{is-U, is-D, is-S}
+use Rattle.quark.proofs.Instance.{is-U, is-D, is-S}
 use Rattle.permutation.proofs.taps.g_taps.Statement.{statement}
 use Rattle.permutation.proofs.taps.g_taps.Tie as tie
 

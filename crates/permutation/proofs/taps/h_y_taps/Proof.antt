@@ -2,7 +2,7 @@
 use mathlib.Core.Path.{refl}
 use native.Mathlib.Omega.{arith}
 use Rattle.quark.specs.Instance.{U, D, S}
-use Rattle.permutation.proofs.Instances.{is-U, is-D, is-S}
+use Rattle.quark.proofs.Instance.{is-U, is-D, is-S}
 use Rattle.permutation.proofs.taps.h_y_taps.Statement.{statement}
 use Rattle.permutation.proofs.taps.h_y_taps.Tie as tie
 

@@ -2,7 +2,7 @@
 use mathlib.Core.Path.{refl}
 use native.Mathlib.Omega.{arith}
 use Rattle.quark.specs.Instance.{U, D, S}
-use Rattle.permutation.proofs.Instances.{is-U, is-D, is-S}
+use Rattle.quark.proofs.Instance.{is-U, is-D, is-S}
 use Rattle.permutation.proofs.taps.half_of.Statement.{statement}
 use Rattle.permutation.proofs.taps.half_of.Tie as tie
 

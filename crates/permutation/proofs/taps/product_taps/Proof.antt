@@ -1,7 +1,7 @@
 -- `serial::product_taps` meets its contract: for each of the three instances by computation. Assumes nothing.
 use mathlib.Core.Path.{refl}
 use Rattle.quark.specs.Instance.{U, D, S}
-use Rattle.permutation.proofs.Instances.{is-U, is-D, is-S}
+use Rattle.quark.proofs.Instance.{is-U, is-D, is-S}
 use Rattle.permutation.proofs.taps.product_taps.Statement.{statement}
 use Rattle.permutation.proofs.taps.product_taps.Tie as tie
 

@@ -2,7 +2,7 @@
 use mathlib.Core.Path.{sym, ap}
 use Rattle.quark.specs.Bytes.{tabulate, bitAt, bitsOf, byteAt, bytesOf}
 use Rattle.quark.specs.Instance.{Instance, U, D, S}
-use Rattle.permutation.proofs.Instances.{is-U, is-D, is-S}
+use Rattle.quark.proofs.Instance.{is-U, is-D, is-S}
 use Rattle.sponge.proofs.fresh.initial.Statement.{statement}
 use Rattle.sponge.proofs.fresh.initial.Tie as tie
 

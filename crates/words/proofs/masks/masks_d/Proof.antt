@@ -1,0 +1,16 @@
+-- `words::masks::masks_d` meets its contract: the places of the masks are the linear taps, and no place is above 111, by computation. Assumes nothing.
+use mathlib.Core.Path.{refl}
+use lib.Dec.{lit<}
+use Rattle.quark.specs.Feedback.{exchange}
+use Rattle.quark.specs.Instance.{D}
+use Rattle.quark.specs.leaf.Word.{putIf, placesFrom}
+use Rattle.words.specs.leaf.Turns.{linearTaps}
+use Rattle.words.proofs.masks.masks_d.Statement.{statement}
+use Rattle.words.proofs.masks.masks_d.Tie as tie
+
+returns : tie.Need-returns
+unfolding D placesFrom putIf linearTaps exchange
+returns c = record { fPlaces = refl; gPlaces = refl; fNarrow = lit< tt; gNarrow = lit< tt }
+
+pub masks-d-spec : {M : Type 1} → statement M
+masks-d-spec = tie.close (tie.spec returns)

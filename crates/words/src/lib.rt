@@ -1,0 +1,62 @@
+// Several steps together on registers that are words (document 01, "Steps, permutation and inverse"): 8 in a turn for every instance, 16
+// for S. The operations are total: a call that does not fit hands its state back.
+ghost use mathlib.Core.Bool.{true, false};
+ghost use mathlib.Core.Path.{_≡_};
+ghost use Rattle.quark.specs.Instance.{instanceOf};
+ghost use Rattle.words.specs.Words.{Stepped, Undone, fits};
+
+mod feedback;
+mod fitting;
+mod masks;
+mod registers;
+mod strides;
+mod turns;
+mod turns_back;
+
+// X or Y as the number hi * 2 ^ 64 + lo, with bit i at weight 2 ^ i; or a mask over it.
+pub struct Register {
+    pub hi: u64,
+    pub lo: u64,
+}
+
+// X, Y and L; L is a number below 1024 with bit i at weight 2 ^ i.
+pub struct State {
+    pub x: Register,
+    pub y: Register,
+    pub l: u64,
+}
+
+// The state `count` steps on, `width` taken together.
+// A call that does not fit gives the state as it was.
+pub fn run(instance: u32, width: u32, count: u32, state: State) -> State
+    ensures taken { λ r. ⌜ (fits instance width count state ≡ true → Stepped (instanceOf instance .taps) count (state .x) (state .y) (state .l) r) ⌝ }
+    ensures left { λ r. ⌜ (fits instance width count state ≡ false → r ≡ state) ⌝ }
+{
+    if !fitting::fits(instance, width, count, state) {
+        return state;
+    }
+    let x = state.x;
+    let y = state.y;
+    turns::turns(x, y, state.l, instance, width, count / width)
+}
+
+// The state `count` steps before, `width` undone in a turn; state.l is what L was before them.
+// A call that does not fit gives the state as it was.
+pub fn undo(instance: u32, width: u32, count: u32, state: State) -> State
+    ensures taken { λ r. ⌜ (fits instance width count state ≡ true → Undone (instanceOf instance .taps) count (state .x) (state .y) (state .l) r) ⌝ }
+    ensures left { λ r. ⌜ (fits instance width count state ≡ false → r ≡ state) ⌝ }
+{
+    if !fitting::fits(instance, width, count, state) {
+        return state;
+    }
+    let x = state.x;
+    let y = state.y;
+    turns_back::turns_back(
+        x,
+        y,
+        strides::ahead(state.l, count / 8),
+        instance,
+        width,
+        count / width,
+    )
+}
