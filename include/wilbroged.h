@@ -16,7 +16,7 @@
  *
  * Overlap. A buffer that is written (one without const) must not overlap another argument of the same call, in any function.
  *
- * Answers. 0 where a call is accepted, else the number of the first refusal that holds, in the order that the function's comment gives. A
+ * Answers (journal_refused_at apart). 0 where a call is accepted, else the number of the first refusal that holds, in the order that the function's comment gives. A
  * refused call writes nothing. An accepted call writes its buffer and nothing else.
  *
  * Threads. No function keeps a state of its own or allocates memory, so threads may call all of them at the same time, as long as no call
@@ -55,26 +55,28 @@ extern "C" {
 
 /*
  * Overwrites a state by its permutation.
- * Refuses by 1, 4 and 5 (state_len is not 17, 22 or 32), in this order, and leaves the state as it was.
+ * Refuses by 1, 4 and 5 (state_len is not the instance's: 17, 22 or 32 for 1, 2 or 3), in this order, and leaves the state as it was.
  */
 uint32_t quark_permute(uint32_t instance, uint32_t width, uint8_t *state, size_t state_len);
 
 /*
  * Overwrites a state by the inverse of its permutation: it undoes quark_permute at any width.
- * Refuses by 1, 4 and 5 (state_len is not 17, 22 or 32), in this order, and leaves the state as it was.
+ * Refuses by 1, 4 and 5 (state_len is not the instance's: 17, 22 or 32 for 1, 2 or 3), in this order, and leaves the state as it was.
  */
 uint32_t quark_invert(uint32_t instance, uint32_t width, uint8_t *state, size_t state_len);
 
 /*
  * Writes the digest of the first bit_count bits of the message; bits and bytes behind them are ignored.
- * Refuses by 1, 4, 5 (digest_len is not 17, 22 or 32), 6 and 7, in this order, and leaves the digest's buffer as it was.
+ * Refuses by 1, 4, 5 (digest_len is not the instance's: 17, 22 or 32 for 1, 2 or 3), 6 and 7, in this order, and leaves the digest's
+ * buffer as it was.
  */
 uint32_t quark_digest(uint32_t instance, uint32_t width, const uint8_t *message, size_t message_len, uint64_t bit_count,
                       uint8_t *digest, size_t digest_len);
 
 /*
  * Seals a body: writes its 23 bytes to the record, and the seal of 17 bytes behind them. The previous seal is the last 17 bytes of the
- * record before, zeros for a first record. It and the body's sequence are taken on trust.
+ * record before, zeros for a first record. It is taken on trust, and so are the body's station, sequence and time: 10 reads kind, lamp
+ * position, milliseconds and bytes 18-22 alone. journal_verify tests the rest.
  * Refuses by 5 (key_len is not 16, previous_len 17, body_len 23 or record_len 40) and 10, in this order, and leaves the record as it was.
  *
  * The body must not lie in the record's buffer: build it elsewhere. Nor may the key or the previous seal; the record just

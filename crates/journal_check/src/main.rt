@@ -1,6 +1,7 @@
 // The check program (document 01, "Record and journal"): reads standard input, key then journal, and prints one line, `accepted`, records and
 // runs, or `refused`, number and place.
-ghost use Prim.Native.Nat.{_≤_};
+ghost use mathlib.Core.Path.{_≡_};
+ghost use Prim.Native.Nat.{_≤_, _<_};
 ghost use lib.ListN.{length};
 use libc::STDIN_FILENO;
 use libc::STDOUT_FILENO;
@@ -12,7 +13,7 @@ const MOST: usize = 64017;
 // refuses as over-long, so that a failed read is never accepted.
 fn after_failed_read(done: usize, size: usize) -> usize
     requires { ⌜ done ≤ size ⌝ }
-    ensures { λ r. ⌜ r ≤ size ⌝ }
+    ensures { λ r. ⌜ (r ≤ size) × (done < 16 → r ≡ done) × (16 ≤ done → r ≡ size) ⌝ }
 {
     if done < 16 { done } else { size }
 }

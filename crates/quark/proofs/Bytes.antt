@@ -34,12 +34,6 @@ tabulate-cong zero F G e = refl
 tabulate-cong (suc n) F G e =
     ap₂ (λ (l : List ℕ) (v : ℕ). l ++ (v ∷ [])) (tabulate-cong n F G (λ i h. e i (omega arith))) (e n (omega arith))
 
--- a list is the table of its elements
-pub tabulate-bits : (n : ℕ) (s : List ℕ) → length s ≡ n → tabulate n (bit s) ≡ s
-tabulate-bits n s e =
-    ext-getD 0 (tabulate n (bit s)) s (length-tabulate n (bit s) ∙ sym e)
-    (λ i h. getD-tabulate n (bit s) i (subst (λ (k : ℕ). i < k) (length-tabulate n (bit s)) h))
-
 -- ---- bits of bytes are bits
 
 pub wide-bitsOf : (n : ℕ) (bytes : List ℕ) → Wide n (bitsOf n bytes)

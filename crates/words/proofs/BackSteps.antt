@@ -1,12 +1,10 @@
 -- A turn of w steps back: the registers that were found lead, in w steps, to where it began. Assumes nothing.
-use mathlib.Core.List.{List}
-use mathlib.Core.Logic.{⊎-elim, _⊎_, inl, inr}
 use mathlib.Core.Path.{_≡_, sym, ap, ap₂, _∙_, subst}
 use Prim.Native.Nat.{ℕ, zero, suc, _+_, _*_, _/_, _%_, _^_, _<_, _≤_}
-use native.Mathlib.Nat.{add-zero, add-comm, add-mod, zero-mul, one-mul}
+use native.Mathlib.Nat.{add-zero, zero-mul, one-mul}
 use native.Mathlib.Omega.{arith}
 use Rattle.quark.specs.Bytes.{bit}
-use Rattle.quark.specs.Feedback.{Taps, feedback, exchange, f, g, sumAt, h}
+use Rattle.quark.specs.Feedback.{Taps, exchange, f, g, h}
 use Rattle.quark.specs.Step.{Registers, steps, stepsL}
 use Rattle.quark.specs.leaf.Together.{from, gainX, gainY, gains, moved}
 use Rattle.quark.specs.leaf.Word.{wordBit, wordBits, placesFrom}
@@ -18,12 +16,11 @@ use Rattle.words.specs.declared.feedback.Gains.{Gains}
 use Rattle.words.specs.declared.turns_back.Parts.{Parts}
 use Rattle.words.specs.declared.turns_back.Near.{Near}
 use Rattle.words.specs.Words.{value, wordRegisters}
-use Rattle.words.specs.leaf.Turns.{inStep, productsAt, linearTaps, gSlopeAt, hSlope, PartBits, KnownX, KnownY, SolvedX, SolvedY, maskSum, pack, Preceding}
-use Rattle.words.proofs.Feeds.{feedback-split}
+use Rattle.words.specs.leaf.Turns.{inStep, linearTaps, gSlopeAt, hSlope, PartBits, KnownX, KnownY, SolvedX, SolvedY, maskSum, pack, Preceding}
+use Rattle.words.proofs.Feeds.{fed-sum}
 use Rattle.words.proofs.LSequence.{Firsts}
-use Rattle.words.proofs.MovedUp.{up-lt, up-moved, low-bit}
+use Rattle.words.proofs.MovedUp.{up-lt, up-moved}
 use Rattle.words.proofs.NearTaps.{Nearby, read-first, f-moved, g-moved, h-moved}
-use Rattle.words.proofs.Sums.{maskSum-lt, bit-pack}
 
 -- a register of p + w bits moved up by w, with new bits in front
 abbrev pub raised : (w n p new : ℕ) → ℕ
@@ -73,20 +70,6 @@ module _ (T : Taps) (lawful : Lawful T) (w : ℕ) (reach : Reach T w) (p : ℕ) 
       ∙ registers-path (up-moved (T .half) x p w a (gains gainX T s) e small-a gainedX) (up-moved (T .half) y p w b (gains gainY T s) e small-b gainedY) el
 
 -- ---- the words
-
--- f's sum in step k: the products, and the linear taps under a mask
-fed-sum : (taps : List ℕ) (n mask w k products sums : ℕ) → k < w → placesFrom 128 0 mask ≡ linearTaps taps
-    → wordBit products k ≡ productsAt taps (wordBit (n / 2 ^ k)) % 2 → sums ≡ pack (maskSum n mask) w
-    → feedback taps (wordBit (n / 2 ^ k)) ≡ (wordBit products k + wordBit sums k) % 2
-unfolding maskSum
-fed-sum taps n mask w k products sums less places ep es =
-    let X = wordBit (n / 2 ^ k) in
-    let linear : wordBit sums k ≡ sumAt X (linearTaps taps) % 2 =
-    ap (λ (m : ℕ). wordBit m k) es ∙ bit-pack (maskSum n mask) (maskSum-lt n mask) w k less ∙ ap (λ (ts : List ℕ). sumAt X ts % 2) places in
-    feedback-split taps X
-    ∙ add-mod (sumAt X (linearTaps taps)) (productsAt taps X) 2
-    ∙ ap₂ (λ (a b : ℕ). (a + b) % 2) (sym linear) (sym ep)
-    ∙ ap (λ (m : ℕ). m % 2) (add-comm (wordBit sums k) (wordBit products k))
 
 -- sums whose parts have the same parity
 swap : (n a b r : ℕ) → a % 2 ≡ b % 2 → (n + a + r) % 2 ≡ (n + b + r) % 2

@@ -1,8 +1,8 @@
 -- What f, g and h feed in, split as the words have it: linear taps and products, h's lone bits and the rest. Assumes nothing.
 use mathlib.Core.List.{List}
-use mathlib.Core.Path.{_≡_, sym, ap, subst, _∙_}
+use mathlib.Core.Path.{_≡_, sym, ap, ap₂, subst, _∙_}
 use Prim.Native.Nat.{ℕ, _+_, _/_, _%_, _^_, _<_}
-use native.Mathlib.Nat.{add-comm, mod-eq-of-lt}
+use native.Mathlib.Nat.{add-comm, add-mod, mod-eq-of-lt}
 use native.Mathlib.Omega.{arith}
 use lib.Bits.{bitXor}
 use Rattle.quark.specs.Feedback.{Taps, feedback, exchange, sumAt, h}
@@ -48,13 +48,15 @@ rest-bits T x y l k f g mixed b bl ef eg eh = record {
 }
 
 -- f's sum in step k: the products, and the linear taps under a mask
-pub fed-bit : (taps : List ℕ) (n mask w k products sums : ℕ) → k < w → placesFrom 128 0 mask ≡ linearTaps taps
+pub fed-sum : (taps : List ℕ) (n mask w k products sums : ℕ) → k < w → placesFrom 128 0 mask ≡ linearTaps taps
     → wordBit products k ≡ productsAt taps (wordBit (n / 2 ^ k)) % 2 → sums ≡ pack (maskSum n mask) w
-    → wordBit (bitXor products sums) k ≡ feedback taps (wordBit (n / 2 ^ k))
+    → feedback taps (wordBit (n / 2 ^ k)) ≡ (wordBit products k + wordBit sums k) % 2
 unfolding maskSum
-fed-bit taps n mask w k products sums less places ep es =
+fed-sum taps n mask w k products sums less places ep es =
     let X = wordBit (n / 2 ^ k) in
-    xor-sum k products sums (productsAt taps X) (sumAt X (linearTaps taps)) ep
-    (ap (λ (m : ℕ). wordBit m k) es ∙ bit-pack (maskSum n mask) (maskSum-lt n mask) w k less ∙ ap (λ (ts : List ℕ). sumAt X ts % 2) places)
-    ∙ ap (λ (m : ℕ). m % 2) (add-comm (productsAt taps X) (sumAt X (linearTaps taps)))
-    ∙ sym (feedback-split taps X)
+    let linear : wordBit sums k ≡ sumAt X (linearTaps taps) % 2 =
+    ap (λ (m : ℕ). wordBit m k) es ∙ bit-pack (maskSum n mask) (maskSum-lt n mask) w k less ∙ ap (λ (ts : List ℕ). sumAt X ts % 2) places in
+    feedback-split taps X
+    ∙ add-mod (sumAt X (linearTaps taps)) (productsAt taps X) 2
+    ∙ ap₂ (λ (a b : ℕ). (a + b) % 2) (sym linear) (sym ep)
+    ∙ ap (λ (m : ℕ). m % 2) (add-comm (wordBit sums k) (wordBit products k))

@@ -8,7 +8,7 @@ use Prim.Native.Nat.{ℕ, _+_, _*_, _/_, _%_, _^_, _<_, _≤_}
 use native.Mathlib.Nat.{add-mul, add-zero, zero-add, mod-add-mod}
 use native.Mathlib.Omega.{arith}
 use lib.Dec as dec
-use lib.Dec.{lit<, lit≤, leb, leb→le}
+use lib.Dec.{lit<, ltb, ltb→lt, leb, leb→le}
 use lib.ListN.{length, getD, drop, length-drop}
 use lib.Pow.{pow-pos}
 use lib.Seq.{getD-drop}
@@ -86,19 +86,27 @@ nearby-S w =
     ⊎-elim (λ e. subst (Nearby (S .taps) _) (sym e) (nearby (S .taps) _ 8 refl refl refl refl tt tt tt tt tt))
     (λ e. subst (Nearby (S .taps) _) (sym e) (nearby (S .taps) _ 16 refl refl refl refl tt tt tt tt tt))
 
+-- so is that the near taps settle
+settling : (near : Near) (w : ℕ) → dec.T (ltb 0 (near .y)) → dec.T (leb (near .y) (near .h)) → dec.T (ltb (near .x) 64) → dec.T (ltb (near .h) 64) → dec.T (ltb (near .g) 64)
+    → dec.T (ltb w 64) → dec.T (leb w (near .g + near .x)) → dec.T (leb w (near .g + near .y)) → dec.T (leb w (near .g + near .g)) → Settling near w
+settling near w a b c d e f x y g = record {
+  first = ltb→lt 0 (near .y) a;
+  ordered = leb→le (near .y) (near .h) b;
+  inside = (ltb→lt (near .x) 64 c, ltb→lt (near .h) 64 d, ltb→lt (near .g) 64 e, ltb→lt w 64 f);
+  pastX = leb→le w (near .g + near .x) x;
+  pastY = leb→le w (near .g + near .y) y;
+  pastG = leb→le w (near .g + near .g) g;
+}
+
 pub settling-U : Settling (record { x = 4; y = 2; h = 3; g = 7 }) 8
-settling-U = record { first = lit< tt; ordered = lit≤ tt; inside = (lit< tt, lit< tt, lit< tt, lit< tt); pastX = lit≤ tt; pastY = lit≤ tt; pastG = lit≤ tt }
+settling-U = settling _ 8 tt tt tt tt tt tt tt tt tt
 
 pub settling-D : Settling (record { x = 5; y = 2; h = 4; g = 9 }) 8
-settling-D = record { first = lit< tt; ordered = lit≤ tt; inside = (lit< tt, lit< tt, lit< tt, lit< tt); pastX = lit≤ tt; pastY = lit≤ tt; pastG = lit≤ tt }
+settling-D = settling _ 8 tt tt tt tt tt tt tt tt tt
 
 pub settling-S : (w : ℕ) → Width w → Settling (record { x = 7; y = 3; h = 8; g = 13 }) w
 settling-S w =
-    ⊎-elim
-    (λ e. subst (Settling _) (sym e)
-    (record { first = lit< tt; ordered = lit≤ tt; inside = (lit< tt, lit< tt, lit< tt, lit< tt); pastX = lit≤ tt; pastY = lit≤ tt; pastG = lit≤ tt }))
-    (λ e. subst (Settling _) (sym e)
-    (record { first = lit< tt; ordered = lit≤ tt; inside = (lit< tt, lit< tt, lit< tt, lit< tt); pastX = lit≤ tt; pastY = lit≤ tt; pastG = lit≤ tt }))
+    ⊎-elim (λ e. subst (Settling _) (sym e) (settling _ 8 tt tt tt tt tt tt tt tt tt)) (λ e. subst (Settling _) (sym e) (settling _ 16 tt tt tt tt tt tt tt tt tt))
 
 -- ---- the bits that are read
 

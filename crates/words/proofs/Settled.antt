@@ -1,6 +1,5 @@
 -- The bits that a turn back finds, solved from the last step to the first. Assumes nothing.
-use mathlib.Core.Logic.{⊎-elim}
-use mathlib.Core.Path.{_≡_, refl, sym, ap, ap₂, _∙_, subst}
+use mathlib.Core.Path.{_≡_, sym, ap, ap₂, _∙_}
 use Prim.Native.Nat.{ℕ, _+_, _*_, _/_, _%_, _^_, _<_, _≤_}
 use native.Mathlib.Nat.{add-comm, lt-of-le-of-lt, mod-add-mod, add-mod-mod, zero-mul}
 use native.Mathlib.Omega.{arith}
@@ -93,7 +92,7 @@ module _ (w t v u g kx ky gs hs z : ℕ) (smallX : kx < 2 ^ w) (smallZ : z < 2 ^
   late-lt =
       xor-lt w (z / 2 ^ g) (bitAnd (z / 2 ^ g) gs) (fewer w z g smallZ) (lt-of-le-of-lt (and-le-l (z / 2 ^ g) gs) (fewer w z g smallZ))
 
-  -- g reads new bits in the last steps alone
+  -- g reads new bits in the first steps alone
   no-late : (k : ℕ) → w ≤ k + g → wordBit late k ≡ 0
   no-late k more =
       late-bit k ∙ ap (λ (n : ℕ). n * (1 + wordBit gs k) % 2) (past-end z w (k + g) smallZ more) ∙ ap (λ (n : ℕ). n % 2) (zero-mul (1 + wordBit gs k))
@@ -107,7 +106,7 @@ module _ (w t v u g kx ky gs hs z : ℕ) (smallX : kx < 2 ^ w) (smallZ : z < 2 ^
       ∙ ap₂ (λ (a b : ℕ). (a + b) % 2) (wordBit-xor z late k) (shr-bit late 1 k)
       ∙ mod-add-mod (wordBit z k + wordBit late k) 2 (wordBit late (k + 1))
 
-  -- Y's bits before those are z's
+  -- Y's bits in the later steps are z's
   y-same : (k : ℕ) → w ≤ k + g → wordBit (bitXor (bitXor z late) (late / 2 ^ 1)) k ≡ wordBit z k
   y-same k more =
       new-y k

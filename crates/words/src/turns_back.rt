@@ -1,13 +1,13 @@
 // Steps undone on register words (document 01, "Steps, permutation and inverse"), `width` of them in a turn. The registers are moved up by
 // the width, with 0 for the bits that are to be found, and what f, g and h are of the bits that are known is worked out for all steps at
-// once. Of what X and Y gained in a step h cancels out: X0 is the sum of both and of f and g, and Y0 the sum of what Y gained, of g and of
-// h. Of the bits that are to be found, g reads one near tap (in its last steps), h two in X and two in Y, each by itself or times known
-// bits. So the bits are found from the last step to the first, in words.
+// once. Of what X and Y gained in a step h cancels out: X0 is the sum of both and of f and g without their own tap a0, and Y0 the sum of
+// what Y gained, of g without it, and of h. Of the bits that are to be found, g reads one near tap besides, in the first steps of the turn;
+// h reads two in X and two in Y, each by itself or times known bits. So the bits are found from the last step to the first, in words.
 ghost use mathlib.Core.Path.{_≡_};
 ghost use Prim.Native.Nat.{ℕ, _+_, _*_, _%_, _^_, _<_, _≤_};
 ghost use Rattle.quark.specs.Instance.{U, D, S, instanceOf};
 ghost use Rattle.quark.specs.leaf.Word.{wordBit};
-ghost use Rattle.words.specs.Words.{value, Fitting};
+ghost use Rattle.words.specs.Words.{Fitting};
 ghost use Rattle.words.specs.leaf.Turns.{inStep, gSlope, hSlope, PartBits, KnownX, KnownY, Settling, SolvedX, SolvedY, Width, Turns, Preceding};
 use crate::Register;
 use crate::State;
@@ -122,8 +122,8 @@ fn settled(c: u64, slope: u64, near: u32, far: u32, width: u32) -> u64
     word
 }
 
-// The bits of X and Y before their steps, from those that are right but for what f, g and h read of them. The bits that g reads are in the
-// last steps, which nothing but X1 reads again.
+// The bits of X and Y before their steps, from those that are right but for what f, g and h read of them. g reads new bits in the first
+// steps alone, those below width - near.g. What that changes there (late), nothing but h's tap X1 reads again.
 fn found(known: Gains, parts: Parts, near: Near, width: u32) -> Gains
     requires { ⌜ (known .x < 2 ^ width) × (known .y < 2 ^ width) × Settling near width ⌝ }
     ensures { λ r. ⌜ (r .x < 2 ^ width) × (r .y < 2 ^ width) × ((k : ℕ) → SolvedX known parts near r k) × ((k : ℕ) → SolvedY known parts near r k) ⌝ }

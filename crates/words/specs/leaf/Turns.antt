@@ -90,7 +90,7 @@ KnownX x y p sums place r k =
 abbrev pub KnownY : (y : Register) → Parts → Gains → (place : ℕ) → Gains → ℕ → Type 0
 KnownY y p sums place r k = wordBit (r .y) k ≡ (wordBit (value y) (place + k) + wordBit (p .g) k + wordBit (sums .y) k + wordBit (p .h) k) % 2
 
--- near taps of a turn back of w steps: what g reads of the bits that are found, nothing but X1 reads again
+-- near taps of a turn back of w steps: the bits that g's near tap changes, those below place w - g, nothing but X1 reads again
 pub record Settling (near : Near) (w : ℕ) : Type 0 where
   pub first : 0 < near .y
   pub ordered : near .y ≤ near .h

@@ -6,7 +6,7 @@ use native.Mathlib.Nat.{div-one}
 use native.Mathlib.Numerals.{add-one}
 use native.Mathlib.Omega.{arith}
 use borrow.Author.Needs.{needs}
-use lib.ListN.{length, set, length-set}
+use lib.ListN.{length, set}
 use lib.Pow.{shr-shr}
 use Rattle.quark.specs.leaf.Word.{wordBit}
 use Rattle.permutation.specs.leaf.Several.{written}

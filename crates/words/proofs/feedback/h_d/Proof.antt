@@ -8,7 +8,7 @@ use Rattle.quark.specs.Feedback.{sumAt}
 use Rattle.quark.specs.Instance.{D}
 use Rattle.quark.specs.leaf.Word.{wordBit}
 use Rattle.words.proofs.Sums.{xor-sum}
-use Rattle.words.proofs.Feeds.{seen-sum, h-split}
+use Rattle.words.proofs.Feeds.{h-split}
 use Rattle.words.proofs.feedback.h_d.Statement.{statement}
 use Rattle.words.proofs.feedback.h_d.Tie as tie
 

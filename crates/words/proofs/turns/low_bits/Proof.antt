@@ -1,6 +1,6 @@
 -- `words::turns::low_bits` meets its contract. Assumes nothing.
 use mathlib.Core.Logic.{⊎-elim}
-use mathlib.Core.Path.{_≡_, sym, ap}
+use mathlib.Core.Path.{sym, ap}
 use Prim.Native.Nat.{ℕ, _%_, _^_}
 use Rattle.words.proofs.turns.low_bits.Statement.{statement}
 use Rattle.words.proofs.turns.low_bits.Tie as tie

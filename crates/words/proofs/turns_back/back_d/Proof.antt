@@ -5,7 +5,6 @@ use lib.Dec.{lit<, lit≤}
 use borrow.Author.Needs.{needs}
 use Rattle.quark.specs.Instance.{D}
 use Rattle.quark.proofs.Taps.{lawful-D}
-use Rattle.words.specs.Words.{value}
 use Rattle.words.proofs.BackSteps.{turned-back}
 use Rattle.words.proofs.LStrides.{firsts-eight}
 use Rattle.words.proofs.NearTaps.{nearby-D, settling-D}
