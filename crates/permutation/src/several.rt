@@ -1,5 +1,5 @@
-// Several steps together: 8 for every instance, 16 for S (document 01, "Steps, permutation and inverse"). The registers are taken from the
-// 256 cells of single bits as words, stepped by `words`, and put back. A half is 68, 88 or 128 bits, so that lo is always full.
+// Several steps together on the 256 cells of single bits (document 01, "Steps, permutation and inverse"): X and Y are taken from them as
+// words, stepped by the crate `words`, and put back. A half is 68, 88 or 128 bits, so that lo is always full.
 ghost use mathlib.Core.Path.{_≡_};
 ghost use Prim.Native.Nat.{_+_, _%_, _^_, _≤_, _<_};
 ghost use lib.ListN.{length, take, drop};

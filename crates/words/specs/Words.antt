@@ -1,4 +1,5 @@
--- Registers in words, and the words some steps on or before. A word's bit i has weight 2 ^ i. Assumes nothing.
+-- Registers in words, and the words some steps on or before (document 01, "Steps, permutation and inverse"). A word's bit i has weight
+-- 2 ^ i; `wordBits k n` is the list of the bits 0 to k - 1 of n. Assumes nothing.
 use mathlib.Core.Bool.{Bool, _&&_, _||_}
 use mathlib.Core.Path.{_≡_}
 use Prim.Native.Nat.{ℕ, _+_, _*_, _%_, _^_, _<_}

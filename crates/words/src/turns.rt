@@ -12,7 +12,6 @@ use crate::feedback::linear;
 use crate::feedback::rest_d;
 use crate::feedback::rest_s;
 use crate::feedback::rest_u;
-use crate::masks::Masks;
 use crate::masks::masks_d;
 use crate::masks::masks_s;
 use crate::masks::masks_u;

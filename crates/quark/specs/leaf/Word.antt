@@ -1,5 +1,5 @@
--- Bits in a machine word: bit i has weight 2 ^ i. Only the contracts of private functions and the laws cite these forms.
--- Assumes nothing.
+-- Bits in a machine word: bit i has weight 2 ^ i. Only the contracts of private functions and of the crate `words`, and the laws, cite
+-- these forms. Assumes nothing.
 use mathlib.Core.List.{List, [], _∷_}
 use Prim.Native.Nat.{ℕ, zero, suc, _/_, _%_, _^_}
 

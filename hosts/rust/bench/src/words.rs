@@ -1,4 +1,4 @@
-//! The word peer: the Rattle word form (`crates/permutation/src/words.rt`, `words_back.rt` and what they call) in Rust, with the same turns,
+//! The word peer: the Rattle word form (`crates/words`, and `several.rt` of `permutation`) in Rust, with the same turns,
 //! masks, loads and stores, so that the benchmark compares one form in two languages.
 
 /// X or Y as the number hi * 2^64 + lo, or a mask over it.
