@@ -16,8 +16,8 @@
  *
  * Overlap. A buffer that is written (one without const) must not overlap another argument of the same call, in any function.
  *
- * Answers (journal_refused_at apart). 0 where a call is accepted, else the number of the first refusal that holds, in the order that the function's comment gives. A
- * refused call writes nothing. An accepted call writes its buffer and nothing else.
+ * Answers (journal_refused_at apart). 0 where a call is accepted, else the number of the first refusal that holds, in the order that the
+ * function's comment gives. A refused call writes nothing. An accepted call writes its buffer and nothing else.
  *
  * Threads. No function keeps a state of its own or allocates memory, so threads may call all of them at the same time, as long as no call
  * writes bytes that another call reads or writes.
