@@ -1,6 +1,7 @@
 -- The laws that the proofs of this crate cite, and that a caller needs.
 pub mod MovedUp
 pub mod Sums
+pub mod OneWord
 pub mod TwoWords
 pub mod Widths
 pub mod Fits

@@ -2,12 +2,12 @@
 // and g are counted under a mask, step by step. The products, and the bits that h adds by themselves, are `&` and `^` of the register's
 // words from each tap on. The taps are literals where they are used: so they become shifts by constants.
 ghost use mathlib.Core.Path.{_≡_};
-ghost use Prim.Native.Nat.{ℕ, _+_, _%_, _^_, _≤_, _<_};
+ghost use Prim.Native.Nat.{ℕ, _+_, _*_, _%_, _^_, _≤_, _<_};
 ghost use Rattle.quark.specs.Feedback.{sumAt, h};
 ghost use Rattle.quark.specs.Instance.{U, D, S};
 ghost use Rattle.quark.specs.leaf.Word.{wordBit, placesFrom};
 ghost use Rattle.words.specs.Words.{value};
-ghost use Rattle.words.specs.leaf.Turns.{inStep, products, mixes, ProductBits, Rest, maskSum, pack};
+ghost use Rattle.words.specs.leaf.Turns.{inStep, products, mixes, ProductBits, Rest, OneWord, maskSum, pack};
 use crate::Register;
 use crate::registers::down;
 use crate::registers::up;
@@ -249,6 +249,38 @@ fn sums(r: Register, mask: Register, width: u32) -> u64
         j += 1;
     }
     bits
+}
+
+// The sums of four steps, as a mask over one word, behind those of later steps. The mask stays and the word moves down, last step first.
+fn four_sums(word: u64, mask: u64, later: u64) -> u64
+    requires { ⌜ later < 16 ⌝ }
+    ensures { λ w. ⌜ w ≡ later * 16 + pack (maskSum word mask) 4 ⌝ }
+{
+    let mut bits = later;
+    let mut j = 4u32;
+    while j > 0 {
+        j -= 1;
+        bits = bits * 2
+            + parity(
+                Register {
+                    hi: 0,
+                    lo: word >> j,
+                },
+                Register { hi: 0, lo: mask },
+            );
+    }
+    bits
+}
+
+// The sums of the linear taps, as a mask over a register, for eight steps, where the register's first eight bits are 0: so the tap 0 adds
+// nothing. The other taps begin at `first` and four steps read them in one word.
+pub fn sums_past(r: Register, mask: Register, first: u32) -> u64
+    requires { ⌜ (value r % 2 ^ 8 ≡ 0) × OneWord (value mask) first ⌝ }
+    ensures { λ w. ⌜ w ≡ pack (maskSum (value r) (value mask)) 8 ⌝ }
+{
+    let taps = window(mask, first);
+    let later = four_sums(window(r, first + 4), taps, 0);
+    four_sums(window(r, first), taps, later)
 }
 
 // The sums of the linear taps of f and of g, as masks over X and Y, for `width` steps.

@@ -1,6 +1,7 @@
 // The linear taps of f and g as masks over X and Y (document 01, "Taps and feedback"): the places of a mask's ones are the taps.
 ghost use Rattle.quark.specs.Instance.{U, D, S};
-ghost use Rattle.words.specs.leaf.Turns.{Masking};
+ghost use Rattle.words.specs.Words.{value};
+ghost use Rattle.words.specs.leaf.Turns.{Masking, OneWord};
 use crate::Register;
 
 // A mask over X for f, and a mask over Y for g.
@@ -27,7 +28,7 @@ pub fn masks_u() -> Masks
 
 // The masks of D.
 pub fn masks_d() -> Masks
-    ensures { λ m. ⌜ Masking (D .taps) m ⌝ }
+    ensures { λ m. ⌜ Masking (D .taps) m × OneWord (value (m .f)) 11 × OneWord (value (m .g)) 9 ⌝ }
 {
     Masks {
         f: Register {

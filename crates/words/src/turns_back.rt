@@ -19,6 +19,7 @@ use crate::feedback::linear;
 use crate::feedback::products_d;
 use crate::feedback::products_s;
 use crate::feedback::products_u;
+use crate::feedback::sums_past;
 use crate::masks::masks_d;
 use crate::masks::masks_s;
 use crate::masks::masks_u;
@@ -177,7 +178,10 @@ fn back_d(x: Register, y: Register, l: u64) -> State
     let f = masks.f;
     let g = masks.g;
     let parts = parts_d(x0, y0, before);
-    let sums = linear(x0, y0, f, g, 8);
+    let sums = Gains {
+        x: sums_past(x0, f, 11),
+        y: sums_past(y0, g, 9),
+    };
     let near = Near {
         x: 5,
         y: 2,

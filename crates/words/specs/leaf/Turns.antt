@@ -68,6 +68,12 @@ pub record Masking (T : Taps) (m : Masks) : Type 0 where
   pub fNarrow : value (m .f) < 2 ^ 112
   pub gNarrow : value (m .g) < 2 ^ 112
 
+-- a mask of the tap 0 and of taps that begin at `first`: four steps read these in one word from there on
+pub record OneWord (mask first : ℕ) : Type 0 where
+  pub place : (0 < first) × (first < 64)
+  pub begins : mask % 2 ^ first ≡ 1
+  pub ends : mask < 2 ^ (61 + first)
+
 -- the products of f in X and of g in Y in step k
 pub record ProductBits (T : Taps) (x y : Register) (w : Gains) (k : ℕ) : Type 0 where
   pub inX : wordBit (w .x) k ≡ productsAt (T .fTaps) (inStep k x) % 2

@@ -244,6 +244,24 @@ fn sums(r: Register, mask: Register, width: u32) -> u64 {
     bits
 }
 
+/// The sums of four steps under a mask over one word, behind those of later steps: the word moves down, last step first.
+#[inline(always)]
+fn four_sums(word: u64, mask: u64, later: u64) -> u64 {
+    let mut bits = later;
+    for j in (0..4).rev() {
+        bits = bits * 2 + parity(Register { hi: 0, lo: word >> j }, Register { hi: 0, lo: mask });
+    }
+    bits
+}
+
+/// The sums for eight steps of a register whose first eight bits are 0: the taps from `first` on, four steps in one word.
+#[inline(always)]
+fn sums_past(r: Register, mask: Register, first: u32) -> u64 {
+    let taps = window(mask, first);
+    let later = four_sums(window(r, first + 4), taps, 0);
+    four_sums(window(r, first), taps, later)
+}
+
 #[inline(always)]
 fn linear(x: Register, y: Register, f: Register, g: Register, width: u32) -> Gains {
     Gains { x: sums(x, f, width), y: sums(y, g, width) }
@@ -419,7 +437,7 @@ fn back_d(s: State) -> State {
     let l = eight_back(s.l);
     let (x0, y0) = (pull(s.x, 0, 80, 8), pull(s.y, 0, 80, 8));
     let parts = parts_d(x0, y0, l);
-    let sums = linear(x0, y0, F_D, G_D, 8);
+    let sums = Gains { x: sums_past(x0, F_D, 11), y: sums_past(y0, G_D, 9) };
     let new = found(known(s.x, s.y, parts, sums, 80, 8), parts, Near { x: 5, y: 2, h: 4, g: 9 }, 8);
     State { x: pull(s.x, new.x, 80, 8), y: pull(s.y, new.y, 80, 8), l }
 }

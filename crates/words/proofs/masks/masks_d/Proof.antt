@@ -1,4 +1,5 @@
--- `words::masks::masks_d` meets its contract: the places of the masks are the linear taps, and no place is above 111, by computation. Assumes nothing.
+-- `words::masks::masks_d` meets its contract: the places of the masks are the linear taps, no place is above 111, and four
+-- steps read all but the tap 0 in one word, by computation. Assumes nothing.
 use mathlib.Core.Path.{refl}
 use lib.Dec.{lit<}
 use Rattle.quark.specs.Feedback.{exchange}
@@ -10,7 +11,11 @@ use Rattle.words.proofs.masks.masks_d.Tie as tie
 
 returns : tie.Need-returns
 unfolding D placesFrom putIf linearTaps exchange
-returns c = record { fPlaces = refl; gPlaces = refl; fNarrow = lit< tt; gNarrow = lit< tt }
+returns c = (
+  record { fPlaces = refl; gPlaces = refl; fNarrow = lit< tt; gNarrow = lit< tt },
+  record { place = (lit< tt, lit< tt); begins = refl; ends = lit< tt },
+  record { place = (lit< tt, lit< tt); begins = refl; ends = lit< tt },
+)
 
 pub masks-d-spec : {M : Type 1} → statement M
 masks-d-spec = tie.close (tie.spec returns)

@@ -26,7 +26,7 @@ unfolding D
 turned-requires c κs =
     let masks = c .before .before .before .before in
     let fits = masks .before .pre in
-    (inl refl, lit< tt, lit≤ tt, fits .fitsX, fits .fitsY, masks .masks-d .ensures .fNarrow, masks .masks-d .ensures .gNarrow)
+    (inl refl, lit< tt, lit≤ tt, fits .fitsX, fits .fitsY, masks .masks-d .ensures .0 .fNarrow, masks .masks-d .ensures .0 .gNarrow)
 
 returns : tie.Need-returns
 unfolding D
@@ -38,7 +38,7 @@ returns c =
     let a = s .args in
     let t = c .turned .ensures in
     turn-steps (D .taps) (lawful-D .0) 8 (lawful-D .1) 80 refl (lit≤ tt) (a .x) (a .y) (a .l) (a .l) (s .pre) (firsts-eight (a .l)) (rest .rest-d .result)
-    (rest .rest-d .ensures) _ _ (masks .masks-d .ensures .fPlaces) (masks .masks-d .ensures .gPlaces) (c .turned .result) (t .0) (t .1) (subst (λ (n : ℕ). n < 1024) (sym (t .2)) (next .eight .ensures .0))
+    (rest .rest-d .ensures) _ _ (masks .masks-d .ensures .0 .fPlaces) (masks .masks-d .ensures .0 .gPlaces) (c .turned .result) (t .0) (t .1) (subst (λ (n : ℕ). n < 1024) (sym (t .2)) (next .eight .ensures .0))
     (ap (wordBits 10) (t .2) ∙ next .eight .ensures .1)
 
 pub turn-d-spec : {M : Type 1} → statement M
