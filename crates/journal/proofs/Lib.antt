@@ -1,12 +1,9 @@
--- The laws of records, journals and lines.
+-- The laws of journals and lines.
 pub mod Growing
 pub mod Decimal
 pub mod Found
 pub mod Reading
 pub mod ReadInTurn
-pub mod Compared
-pub mod Gathered
-pub mod SealRuns
 pub mod Places
 pub mod Turns
 pub mod Accepted

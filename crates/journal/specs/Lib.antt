@@ -1,6 +1,4 @@
--- The record, the journal, and what the operations of this crate answer.
-pub mod Record
-pub mod Seal
+-- The journal, and what the operations of this crate answer.
 pub mod Journal
 pub mod FirstRefusal
 pub mod InTurn

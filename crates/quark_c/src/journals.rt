@@ -1,7 +1,7 @@
 // Sealing and the journal check for a C host.
 ghost use mathlib.Core.Path.{_≡_};
 ghost use Rattle.permutation.specs.Outcome.{numberOf};
-ghost use Rattle.journal.specs.Seal.{sealedOutcome, sealOutcome, sealBytes};
+ghost use Rattle.records.specs.Seal.{sealedOutcome, sealOutcome, sealBytes};
 ghost use Rattle.journal.specs.Journal.{verdictOutcome, verifyOutcome};
 ghost use Rattle.quark_c.specs.Place.{placeOf};
 use journal::Sealed;

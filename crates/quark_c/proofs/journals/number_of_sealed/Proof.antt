@@ -1,8 +1,8 @@
 -- `number_of_sealed` meets its contract: each arm is the case of the answer that it takes. Assumes nothing.
 use mathlib.Core.Path.{sym, ap}
 use borrow.Author.Needs.{needs}
-use Rattle.journal.specs.declared.Sealed.{Sealed}
-use Rattle.journal.specs.Seal.{sealedOutcome}
+use Rattle.records.specs.declared.Sealed.{Sealed}
+use Rattle.records.specs.Seal.{sealedOutcome}
 use Rattle.permutation.specs.Outcome.{numberOf}
 use Rattle.quark_c.proofs.journals.number_of_sealed.Statement.{statement}
 use Rattle.quark_c.proofs.journals.number_of_sealed.Tie as tie
