@@ -12,7 +12,7 @@ use Rattle.quark.specs.Feedback.{Taps}
 use Rattle.quark.specs.Instance.{Instance}
 use Rattle.quark.specs.Inverse.{undoSteps}
 use Rattle.quark.specs.Step.{Registers, steps, stepsL, loaded, stored}
-use Rattle.quark.specs.leaf.Word.{wordBit, wordBits}
+use Rattle.quark.specs.Word.{wordBit, wordBits}
 use Rattle.quark.proofs.Together.{registers-path}
 use Rattle.quark.proofs.Word.{length-wordBits, append-wordBits, cons-wordBits, snoc-wordBits}
 use Rattle.words.specs.declared.Register.{Register}

@@ -12,7 +12,7 @@ use Rattle.quark.specs.Feedback.{Taps, feedback, f, g, h}
 use Rattle.quark.specs.Step.{Registers, shift, stepL, step, loaded, stored}
 use Rattle.quark.specs.Inverse.{unshift, gained, undoStepL, undoStep}
 use Rattle.quark.specs.Instance.{Instance}
-use Rattle.quark.specs.leaf.Word.{wordBits}
+use Rattle.quark.specs.Word.{wordBits}
 use Rattle.quark.specs.leaf.Together.{gainX, gainY}
 use Rattle.quark.proofs.Bits.{Bits, more, Wide, parity-lt, bits-append, bits-take, bits-drop, bits-at, bits-of}
 use Rattle.quark.proofs.Word.{wide-wordBits}

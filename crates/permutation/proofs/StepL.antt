@@ -11,7 +11,7 @@ use Rattle.quark.specs.Bytes.{bit}
 use Rattle.quark.specs.Feedback.{p}
 use Rattle.quark.specs.Step.{shift, stepL}
 use Rattle.quark.specs.Inverse.{unshift, gained, undoStepL}
-use Rattle.quark.specs.leaf.Word.{wordBit, wordBits}
+use Rattle.quark.specs.Word.{wordBit, wordBits}
 use Rattle.quark.proofs.Word.{low-xor, wordBit-mod, length-wordBits, getD-wordBits, cons-wordBits, move-wordBits}
 
 pub step-wordBits : (l : ℕ) → l < 1024 → wordBits 10 (bitXor l (l / 8) % 2 * 512 + l / 2) ≡ stepL (wordBits 10 l)

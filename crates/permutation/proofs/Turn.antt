@@ -11,7 +11,7 @@ use Rattle.quark.specs.Bytes.{bit, bitsOf, byteAt, bytesOf}
 use Rattle.quark.specs.Step.{allOnes, rounds, P}
 use Rattle.quark.specs.Inverse.{undoP}
 use Rattle.quark.specs.Instance.{Instance, instanceOf}
-use Rattle.quark.specs.leaf.Word.{wordBits}
+use Rattle.quark.specs.Word.{wordBits}
 use Rattle.quark.proofs.Bits.{Wide, bits-at, bits-append, bits-replicate}
 use Rattle.quark.proofs.Bytes.{tabulate-cong, wide-bitsOf}
 use Rattle.quark.proofs.Instance.{regular, P-wide, undoP-wide}

@@ -3,7 +3,7 @@ ghost use mathlib.Core.Path.{_≡_};
 ghost use Prim.Native.Nat.{_<_};
 ghost use Rattle.quark.specs.Step.{stepL, stepsL};
 ghost use Rattle.quark.specs.Inverse.{undoStepL};
-ghost use Rattle.quark.specs.leaf.Word.{wordBits};
+ghost use Rattle.quark.specs.Word.{wordBits};
 ghost use Rattle.permutation.specs.Lfsr.{valueOfL};
 
 // L after a step.

@@ -11,7 +11,7 @@ ghost use Rattle.quark.specs.Feedback.{feedback, sumAt, f, g, h};
 ghost use Rattle.quark.specs.Step.{step};
 ghost use Rattle.quark.specs.Inverse.{undoStep};
 ghost use Rattle.quark.specs.Instance.{instanceOf};
-ghost use Rattle.quark.specs.leaf.Word.{wordBits};
+ghost use Rattle.quark.specs.Word.{wordBits};
 ghost use Rattle.permutation.specs.leaf.Core.{Cells, ran, undone};
 ghost use Rattle.permutation.specs.leaf.Serial.{registers, places, Fed, Turned};
 use crate::register_l::next_l;

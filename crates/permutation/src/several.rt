@@ -4,7 +4,7 @@ ghost use mathlib.Core.Path.{_≡_};
 ghost use Prim.Native.Nat.{_+_, _%_, _^_, _≤_, _<_};
 ghost use lib.ListN.{length, take, drop};
 ghost use Rattle.quark.specs.Instance.{instanceOf};
-ghost use Rattle.quark.specs.leaf.Word.{wordBits};
+ghost use Rattle.quark.specs.Word.{wordBits};
 ghost use Rattle.words.specs.Words.{value};
 ghost use Rattle.words.specs.leaf.Turns.{Turns};
 ghost use Rattle.permutation.specs.leaf.Core.{Cells, ran, undone};

@@ -10,7 +10,8 @@ use lib.Pow.{shr-lt, pow-add}
 use lib.Bits.{bitAnd, and-zero-r, and-block, and-lt}
 use lib.Count.{ones, ones-step, ones-cat}
 use Rattle.quark.specs.Feedback.{sumAt}
-use Rattle.quark.specs.leaf.Word.{wordBit, putIf, placesFrom}
+use Rattle.quark.specs.Word.{wordBit}
+use Rattle.quark.specs.leaf.Places.{putIf, placesFrom}
 use Rattle.quark.proofs.Word.{low-and, and-half}
 
 choose : (n i d : ℕ) (l : List ℕ) → d < 2 → wordBit n i * d + sumAt (wordBit n) l ≡ sumAt (wordBit n) (putIf d i l)

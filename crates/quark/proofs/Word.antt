@@ -8,7 +8,7 @@ use lib.Arith.{lt-one, digits-div, digits-mod}
 use lib.Pow.{shr-shr, shr-lt, field, mod-mod-pow}
 use lib.Bits.{bitAnd, bitXor, differ, and-step, xor-step, and-shr, xor-shr, block-half, block-odd}
 use lib.ListN.{length, getD, drop}
-use Rattle.quark.specs.leaf.Word.{wordBit, wordBits}
+use Rattle.quark.specs.Word.{wordBit, wordBits}
 use Rattle.quark.proofs.Bits.{Bits, none, more, Wide, parity-lt}
 
 -- ---- one bit

@@ -7,4 +7,5 @@ pub mod Inverse
 pub mod Instance
 pub mod Sponge
 pub mod CloseAlike
+pub mod Word
 pub mod leaf

@@ -1,3 +1,3 @@
 -- Forms that only the contracts of private functions and the laws cite.
-pub mod Word
+pub mod Places
 pub mod Together

@@ -16,7 +16,7 @@ use lib.Seq.{ext-getD, length-take-le, getD-take, getD-drop, getD-append-add, ge
 use Rattle.quark.specs.Bytes.{bit, tabulate, bitAt, bitsOf, byteAt, bytesOf}
 use Rattle.quark.specs.Instance.{U, D, S, instanceOf}
 use Rattle.quark.specs.Step.{P}
-use Rattle.quark.specs.leaf.Word.{wordBit}
+use Rattle.quark.specs.Word.{wordBit}
 use Rattle.quark.proofs.Bits.{Wide}
 use Rattle.quark.proofs.Bytes.{tabulate-cong, wide-bitsOf, getD-bitsOf, length-bytesOf, bytes-of-bits, byte-past, getD-bytesOf}
 use Rattle.quark.proofs.Instance.{of-each, regular, P-wide}

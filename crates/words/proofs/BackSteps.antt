@@ -7,7 +7,8 @@ use Rattle.quark.specs.Bytes.{bit}
 use Rattle.quark.specs.Feedback.{Taps, exchange, f, g, h}
 use Rattle.quark.specs.Step.{Registers, steps, stepsL}
 use Rattle.quark.specs.leaf.Together.{from, gainX, gainY, gains, moved}
-use Rattle.quark.specs.leaf.Word.{wordBit, wordBits, placesFrom}
+use Rattle.quark.specs.Word.{wordBit, wordBits}
+use Rattle.quark.specs.leaf.Places.{placesFrom}
 use Rattle.quark.proofs.Taps.{Lawful, Reach}
 use Rattle.quark.proofs.Together.{registers-path, gainX-local, gainY-local, steps-together}
 use Rattle.quark.proofs.Word.{wordBit-lt, wordBit-shr, length-wordBits, getD-wordBits}

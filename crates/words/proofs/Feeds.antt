@@ -6,7 +6,8 @@ use native.Mathlib.Nat.{add-comm, add-mod, mod-eq-of-lt}
 use native.Mathlib.Omega.{arith}
 use lib.Bits.{bitXor}
 use Rattle.quark.specs.Feedback.{Taps, feedback, exchange, sumAt, h}
-use Rattle.quark.specs.leaf.Word.{wordBit, placesFrom}
+use Rattle.quark.specs.Word.{wordBit}
+use Rattle.quark.specs.leaf.Places.{placesFrom}
 use Rattle.quark.proofs.Word.{wordBit-lt, wordBit-shr, wordBit-mod}
 use Rattle.words.specs.declared.Register.{Register}
 use Rattle.words.specs.leaf.Turns.{inStep, products, productsAt, linearTaps, mixes, Rest, maskSum, pack}

@@ -9,7 +9,7 @@ use lib.Bits.{bitXor, xor-lt, xor-shifted}
 use lib.ListN.{length}
 use lib.Pow.{pow-pos, shr-le, shr-lt}
 use Rattle.quark.specs.Step.{stepsL}
-use Rattle.quark.specs.leaf.Word.{wordBit, wordBits}
+use Rattle.quark.specs.Word.{wordBit, wordBits}
 use Rattle.quark.proofs.Word.{wordBit-lt, wordBit-xor, wordBit-shr, wordBit-mod, length-wordBits}
 use Rattle.words.proofs.LSequence.{length-stepsL, sequence, sequence-later, recurs, onwards, Firsts, first-bit, ten-firsts}
 use Rattle.words.proofs.MovedUp.{past-end, low-bit, high-bit}

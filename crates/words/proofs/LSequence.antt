@@ -13,7 +13,7 @@ use lib.Seq.{ext-getD, getD-drop, getD-at}
 use Rattle.quark.specs.Bytes.{bit}
 use Rattle.quark.specs.Feedback.{p}
 use Rattle.quark.specs.Step.{shift, stepL, stepsL}
-use Rattle.quark.specs.leaf.Word.{wordBit, wordBits}
+use Rattle.quark.specs.Word.{wordBit, wordBits}
 use Rattle.quark.proofs.Together.{stepsL-add}
 use Rattle.quark.proofs.Word.{wordBit-xor, wordBit-shr, wordBit-mod, length-wordBits, getD-wordBits}
 use Rattle.words.proofs.MovedUp.{below, joined-bits}

@@ -9,7 +9,7 @@ use lib.Bits.{bitXor}
 use lib.ListN.{length}
 use lib.Pow.{pow-pos, shr-lt}
 use Rattle.quark.specs.Step.{stepsL}
-use Rattle.quark.specs.leaf.Word.{wordBits}
+use Rattle.quark.specs.Word.{wordBits}
 use Rattle.quark.proofs.Together.{stepsL-add}
 use Rattle.quark.proofs.Word.{wordBit-mod, length-wordBits}
 use Rattle.words.proofs.LSequence.{Recurs, doubled, length-stepsL, sequence, recurs, Firsts, first-bit, ten-firsts, firsts-joined, firsts-further}

@@ -10,7 +10,7 @@ use lib.Arith.{digits-lt}
 use lib.ListN.{drop}
 use lib.Pow.{pow-pos, pow-mono, pow-add, high, low, split}
 use Rattle.quark.specs.Bytes.{tabulate}
-use Rattle.quark.specs.leaf.Word.{wordBit, wordBits}
+use Rattle.quark.specs.Word.{wordBit, wordBits}
 use Rattle.quark.proofs.Word.{wordBit-shr, wordBit-mod, snoc-wordBits, move-wordBits}
 
 -- new bits that are those of a number

@@ -14,7 +14,7 @@ use lib.Pow.{pow-pos}
 use lib.Seq.{getD-drop}
 use Rattle.quark.specs.Feedback.{Taps, feedback, exchange, f, g, sumAt, h}
 use Rattle.quark.specs.Instance.{U, D, S}
-use Rattle.quark.specs.leaf.Word.{wordBit}
+use Rattle.quark.specs.Word.{wordBit}
 use Rattle.quark.proofs.Feedback.{feedback-first, sumAt-cong, length-exchange, first-exchange}
 use Rattle.quark.proofs.Taps.{All, all-at, all-map, Lawful}
 use Rattle.quark.proofs.Tests.{both}

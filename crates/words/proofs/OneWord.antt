@@ -9,7 +9,8 @@ use lib.Count.{ones, ones-cat}
 use lib.Dec.{lit≤, lit<}
 use lib.Pow.{pow-pos, pow-mono, pow-add, pow-lt, add-lt-pow, shl-lt, shr-lt, shr-le, shr-shr, low, split, field, mod-mod-pow}
 use Rattle.quark.specs.Feedback.{sumAt}
-use Rattle.quark.specs.leaf.Word.{wordBit, placesFrom}
+use Rattle.quark.specs.Word.{wordBit}
+use Rattle.quark.specs.leaf.Places.{placesFrom}
 use Rattle.quark.proofs.Mask.{ones-under-mask}
 use Rattle.quark.proofs.Word.{wordBit-mod}
 use Rattle.words.specs.leaf.Turns.{OneWord, maskSum, pack}

@@ -5,7 +5,7 @@ use native.Mathlib.Nat.{add-comm, lt-of-le-of-lt, mod-add-mod, add-mod-mod, zero
 use native.Mathlib.Omega.{arith}
 use lib.Bits.{bitAnd, bitXor, xor-lt, and-le-l}
 use lib.Pow.{shr-le}
-use Rattle.quark.specs.leaf.Word.{wordBit}
+use Rattle.quark.specs.Word.{wordBit}
 use Rattle.quark.proofs.Word.{wordBit-lt, wordBit-and, wordBit-xor, wordBit-shr}
 use Rattle.words.proofs.MovedUp.{past-end}
 

@@ -11,7 +11,8 @@ use lib.Count.{ones, ones-step, ones-cat}
 use lib.Dec.{lit≤}
 use lib.Pow.{pow-pos, pow-mono, shl-lt, shr-le, shr-shr, high, low, split}
 use Rattle.quark.specs.Feedback.{sumAt}
-use Rattle.quark.specs.leaf.Word.{wordBit, placesFrom}
+use Rattle.quark.specs.Word.{wordBit}
+use Rattle.quark.specs.leaf.Places.{placesFrom}
 use Rattle.quark.proofs.Word.{wordBit-and, wordBit-xor, wordBit-shr, wordBit-mod, low-xor}
 use Rattle.quark.proofs.Mask.{ones-under-mask, ones-under-masks}
 use Rattle.words.specs.leaf.Turns.{maskSum, pack}

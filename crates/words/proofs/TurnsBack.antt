@@ -7,7 +7,7 @@ use native.Mathlib.Omega.{arith}
 use Rattle.quark.specs.Feedback.{Taps}
 use Rattle.quark.specs.Inverse.{undoSteps}
 use Rattle.quark.specs.Step.{steps, stepsL}
-use Rattle.quark.specs.leaf.Word.{wordBits}
+use Rattle.quark.specs.Word.{wordBits}
 use Rattle.quark.proofs.Inverse.{Sized, undo-steps}
 use Rattle.quark.proofs.Taps.{Lawful}
 use Rattle.quark.proofs.Together.{registers-path, steps-add}

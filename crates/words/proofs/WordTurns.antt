@@ -14,7 +14,8 @@ use Rattle.quark.specs.Bytes.{bit, tabulate}
 use Rattle.quark.specs.Feedback.{Taps, exchange, f, g, h, sumAt}
 use Rattle.quark.specs.Step.{Registers, steps, stepsL}
 use Rattle.quark.specs.leaf.Together.{from, gainX, gainY, gains, moved}
-use Rattle.quark.specs.leaf.Word.{wordBit, wordBits, placesFrom}
+use Rattle.quark.specs.Word.{wordBit, wordBits}
+use Rattle.quark.specs.leaf.Places.{placesFrom}
 use Rattle.quark.proofs.Taps.{Lawful, Reach}
 use Rattle.quark.proofs.Together.{registers-path, steps-add, gainX-local, gainY-local, steps-together}
 use Rattle.quark.proofs.Word.{wordBit-shr, wordBit-mod, length-wordBits, getD-wordBits, move-wordBits}

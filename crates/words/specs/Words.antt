@@ -8,7 +8,7 @@ use Rattle.quark.specs.Feedback.{Taps}
 use Rattle.quark.specs.Instance.{instanceOf}
 use Rattle.quark.specs.Inverse.{undoSteps}
 use Rattle.quark.specs.Step.{Registers, steps, stepsL}
-use Rattle.quark.specs.leaf.Word.{wordBits}
+use Rattle.quark.specs.Word.{wordBits}
 use Rattle.words.specs.declared.Register.{Register}
 use Rattle.words.specs.declared.State.{State}
 

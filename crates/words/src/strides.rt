@@ -5,7 +5,7 @@ ghost use mathlib.Core.Path.{_≡_};
 ghost use Prim.Native.Nat.{ℕ, _*_, _^_, _<_};
 ghost use Rattle.quark.specs.Bytes.{bit};
 ghost use Rattle.quark.specs.Step.{stepsL};
-ghost use Rattle.quark.specs.leaf.Word.{wordBit, wordBits};
+ghost use Rattle.quark.specs.Word.{wordBit, wordBits};
 
 // Four steps of L from its old bits.
 fn four(l: u64) -> u64

@@ -6,7 +6,7 @@
 ghost use mathlib.Core.Path.{_≡_};
 ghost use Prim.Native.Nat.{ℕ, _+_, _*_, _%_, _^_, _<_, _≤_};
 ghost use Rattle.quark.specs.Instance.{U, D, S, instanceOf};
-ghost use Rattle.quark.specs.leaf.Word.{wordBit};
+ghost use Rattle.quark.specs.Word.{wordBit};
 ghost use Rattle.words.specs.Words.{Fitting};
 ghost use Rattle.words.specs.leaf.Turns.{inStep, gSlope, hSlope, PartBits, KnownX, KnownY, Settling, SolvedX, SolvedY, Width, Turns, Preceding};
 use crate::Register;

@@ -3,7 +3,7 @@ use mathlib.Core.Path.{ap, _∙_}
 use native.Mathlib.Omega.{arith}
 use borrow.Author.Needs.{needs}
 use Rattle.quark.specs.Step.{allOnes}
-use Rattle.quark.specs.leaf.Word.{wordBits}
+use Rattle.quark.specs.Word.{wordBits}
 use Rattle.permutation.specs.Lfsr.{valueOfL, lfsrAfter}
 use Rattle.permutation.proofs.lfsr.Statement.{statement}
 use Rattle.permutation.proofs.lfsr.Tie as tie

@@ -8,7 +8,7 @@ use Rattle.quark.specs.Feedback.{Taps}
 use Rattle.quark.specs.Step.{steps, stepsL, loaded, stored, P}
 use Rattle.quark.specs.Inverse.{undoSteps, undoP}
 use Rattle.quark.specs.Instance.{Instance}
-use Rattle.quark.specs.leaf.Word.{wordBits}
+use Rattle.quark.specs.Word.{wordBits}
 
 -- every cell is a bit
 abbrev pub Cells : List ℕ → Type 0

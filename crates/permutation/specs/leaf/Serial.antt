@@ -8,7 +8,7 @@ use Rattle.quark.specs.Bytes.{bit}
 use Rattle.quark.specs.Feedback.{Taps, f, g, h}
 use Rattle.quark.specs.Step.{Registers, loaded}
 use Rattle.quark.specs.Instance.{Instance}
-use Rattle.quark.specs.leaf.Word.{wordBits}
+use Rattle.quark.specs.Word.{wordBits}
 use Rattle.permutation.specs.leaf.Core.{Cells}
 
 -- X and Y in the first b cells, and L's value l

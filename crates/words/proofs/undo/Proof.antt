@@ -5,7 +5,7 @@ use Prim.Native.Nat.{ℕ}
 use borrow.Author.Tests.{not-true, not-false}
 use Rattle.quark.specs.Instance.{instanceOf}
 use Rattle.quark.specs.Step.{stepsL}
-use Rattle.quark.specs.leaf.Word.{wordBits}
+use Rattle.quark.specs.Word.{wordBits}
 use Rattle.quark.proofs.Instance.{regular}
 use Rattle.words.specs.Words.{fits}
 use Rattle.words.specs.leaf.Turns.{Preceding}

@@ -8,7 +8,8 @@ use lib.Bits.{bitXor}
 use lib.ListN.{getD}
 use Rattle.quark.specs.Feedback.{Taps, exchange, sumAt, h}
 use Rattle.quark.specs.Step.{steps}
-use Rattle.quark.specs.leaf.Word.{wordBit, placesFrom}
+use Rattle.quark.specs.Word.{wordBit}
+use Rattle.quark.specs.leaf.Places.{placesFrom}
 use Rattle.words.specs.declared.Register.{Register}
 use Rattle.words.specs.declared.feedback.Gains.{Gains}
 use Rattle.words.specs.declared.masks.Masks.{Masks}

@@ -6,7 +6,7 @@ use Rattle.quark.specs.Bytes.{bit}
 use Rattle.quark.specs.Feedback.{feedback, f, g, h}
 use Rattle.quark.specs.Step.{loaded}
 use Rattle.quark.specs.Instance.{instanceOf}
-use Rattle.quark.specs.leaf.Word.{wordBits}
+use Rattle.quark.specs.Word.{wordBits}
 use Rattle.quark.proofs.Bits.{bits-at}
 use Rattle.quark.proofs.Instance.{regular}
 use Rattle.permutation.specs.leaf.Serial.{registers}

@@ -5,7 +5,7 @@ use Prim.Native.Nat.{ℕ, _%_, _<_}
 use Rattle.quark.specs.Bytes.{bit}
 use Rattle.quark.specs.Feedback.{sumAt, h}
 use Rattle.quark.specs.Instance.{instanceOf}
-use Rattle.quark.specs.leaf.Word.{wordBits}
+use Rattle.quark.specs.Word.{wordBits}
 use Rattle.permutation.proofs.Instances.{below}
 use Rattle.permutation.proofs.SingleBits.{single, exact, sum, parity, plus, _⊕_, _⊗_}
 use native.Mathlib.Omega.{arith}

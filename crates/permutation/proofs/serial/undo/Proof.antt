@@ -6,7 +6,7 @@ use lib.ListN.{take, drop}
 use Rattle.quark.specs.Step.{Registers, loaded, stored, stepsL}
 use Rattle.quark.specs.Inverse.{undoSteps}
 use Rattle.quark.specs.Instance.{instanceOf}
-use Rattle.quark.specs.leaf.Word.{wordBits}
+use Rattle.quark.specs.Word.{wordBits}
 use Rattle.permutation.specs.leaf.Core.{undone}
 use Rattle.permutation.specs.leaf.Serial.{registers, Turned}
 use Rattle.permutation.proofs.SerialSteps.{turned-start, turned-cells}

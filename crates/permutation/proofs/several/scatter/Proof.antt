@@ -8,7 +8,7 @@ use native.Mathlib.Omega.{arith}
 use borrow.Author.Needs.{needs}
 use lib.ListN.{length, set}
 use lib.Pow.{shr-shr}
-use Rattle.quark.specs.leaf.Word.{wordBit}
+use Rattle.quark.specs.Word.{wordBit}
 use Rattle.permutation.specs.leaf.Several.{written}
 use Rattle.permutation.proofs.CellWords.{written-none, written-more}
 use Rattle.permutation.proofs.several.scatter.Statement.{statement}

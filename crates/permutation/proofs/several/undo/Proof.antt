@@ -6,7 +6,7 @@ use Prim.Native.Nat.{ℕ, _+_, _^_, _<_, _≤_}
 use native.Mathlib.Omega.{arith}
 use lib.ListN.{length, take, drop}
 use Rattle.quark.specs.Instance.{instanceOf}
-use Rattle.quark.specs.leaf.Word.{wordBits}
+use Rattle.quark.specs.Word.{wordBits}
 use Rattle.words.specs.Words.{value, fits}
 use Rattle.words.proofs.Fits.{fits-tested}
 use Rattle.permutation.specs.leaf.Several.{written}

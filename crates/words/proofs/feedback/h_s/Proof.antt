@@ -6,7 +6,7 @@ use borrow.Author.Needs.{needs}
 use lib.Bits.{bitXor}
 use Rattle.quark.specs.Feedback.{sumAt}
 use Rattle.quark.specs.Instance.{S}
-use Rattle.quark.specs.leaf.Word.{wordBit}
+use Rattle.quark.specs.Word.{wordBit}
 use Rattle.words.proofs.Sums.{xor-sum}
 use Rattle.words.proofs.Feeds.{seen-sum, h-split}
 use Rattle.words.proofs.feedback.h_s.Statement.{statement}

@@ -2,7 +2,7 @@
 use mathlib.Core.Path.{_≡_}
 use Prim.Native.Nat.{ℕ, _%_}
 use native.Mathlib.Nat.{mod-add-mod}
-use Rattle.quark.specs.leaf.Word.{wordBit}
+use Rattle.quark.specs.Word.{wordBit}
 use Rattle.words.specs.leaf.Turns.{mixes}
 use Rattle.words.proofs.Sums.{_&_, _⊕_, bit-&, bit-⊕}
 use Rattle.words.proofs.feedback.mixed.Statement.{statement}

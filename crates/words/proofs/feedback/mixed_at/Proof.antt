@@ -2,7 +2,7 @@
 use mathlib.Core.Path.{_∙_}
 use Prim.Native.Nat.{ℕ, _+_, _*_, _%_, _^_}
 use borrow.Author.Needs.{needs}
-use Rattle.quark.specs.leaf.Word.{wordBit}
+use Rattle.quark.specs.Word.{wordBit}
 use Rattle.words.specs.leaf.Turns.{mixes}
 use Rattle.words.proofs.Sums.{seen}
 use Rattle.words.proofs.feedback.mixed_at.Statement.{statement}

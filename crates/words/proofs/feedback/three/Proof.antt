@@ -3,7 +3,7 @@ use mathlib.Core.Path.{_≡_, _∙_}
 use Prim.Native.Nat.{ℕ, _+_, _*_, _%_, _^_}
 use native.Mathlib.Nat.{mod-add-mod}
 use borrow.Author.Needs.{needs}
-use Rattle.quark.specs.leaf.Word.{wordBit}
+use Rattle.quark.specs.Word.{wordBit}
 use Rattle.words.proofs.Sums.{_⊕_, bit-⊕, seen}
 use Rattle.words.proofs.feedback.three.Statement.{statement}
 use Rattle.words.proofs.feedback.three.Tie as tie

@@ -4,7 +4,7 @@ use mathlib.Core.Path.{refl}
 use lib.Dec.{lit<}
 use Rattle.quark.specs.Feedback.{exchange}
 use Rattle.quark.specs.Instance.{D}
-use Rattle.quark.specs.leaf.Word.{putIf, placesFrom}
+use Rattle.quark.specs.leaf.Places.{putIf, placesFrom}
 use Rattle.words.specs.leaf.Turns.{linearTaps}
 use Rattle.words.proofs.masks.masks_d.Statement.{statement}
 use Rattle.words.proofs.masks.masks_d.Tie as tie

@@ -3,7 +3,7 @@ use mathlib.Core.Path.{_≡_, sym, ap, _∙_}
 use Prim.Native.Nat.{ℕ, _+_, _*_, _/_, _%_}
 use native.Mathlib.Omega.{arith}
 use Rattle.quark.specs.Step.{stepsL}
-use Rattle.quark.specs.leaf.Word.{wordBits}
+use Rattle.quark.specs.Word.{wordBits}
 use Rattle.quark.proofs.Together.{stepsL-add}
 use Rattle.words.proofs.strides.ahead.Statement.{statement}
 use Rattle.words.proofs.strides.ahead.Tie as tie

@@ -4,7 +4,7 @@ use Prim.Native.Nat.{ℕ, _+_, _*_, _-_, _≤_}
 use native.Mathlib.Omega.{arith}
 use borrow.Author.Needs.{needs}
 use Rattle.quark.specs.Step.{stepsL}
-use Rattle.quark.specs.leaf.Word.{wordBits}
+use Rattle.quark.specs.Word.{wordBits}
 use Rattle.words.proofs.LStrides.{Begins, forty-further, ten-of-forty}
 use Rattle.words.proofs.strides.far.Statement.{statement}
 use Rattle.words.proofs.strides.far.Tie as tie

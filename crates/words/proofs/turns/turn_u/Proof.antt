@@ -5,7 +5,7 @@ use Prim.Native.Nat.{ℕ, _<_}
 use borrow.Author.Needs.{needs}
 use lib.Dec.{lit<, lit≤}
 use Rattle.quark.specs.Instance.{U}
-use Rattle.quark.specs.leaf.Word.{wordBits}
+use Rattle.quark.specs.Word.{wordBits}
 use Rattle.quark.proofs.Taps.{lawful-U}
 use Rattle.words.proofs.LStrides.{firsts-eight}
 use Rattle.words.proofs.WordTurns.{turn-steps}

@@ -7,7 +7,7 @@ use borrow.Author.Needs.{needs}
 use Rattle.quark.specs.Feedback.{exchange}
 use Rattle.quark.specs.Instance.{S}
 use Rattle.quark.specs.Step.{stepsL}
-use Rattle.quark.specs.leaf.Word.{wordBits}
+use Rattle.quark.specs.Word.{wordBits}
 use Rattle.quark.proofs.Taps.{lawful-S}
 use Rattle.quark.proofs.Together.{stepsL-add}
 use Rattle.words.specs.leaf.Turns.{gSlopeAt}

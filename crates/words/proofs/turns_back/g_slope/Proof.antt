@@ -3,7 +3,7 @@ use mathlib.Core.Path.{_≡_, _∙_}
 use Prim.Native.Nat.{ℕ, _%_}
 use native.Mathlib.Nat.{mod-add-mod}
 use borrow.Author.Needs.{needs}
-use Rattle.quark.specs.leaf.Word.{wordBit}
+use Rattle.quark.specs.Word.{wordBit}
 use Rattle.words.specs.Words.{value}
 use Rattle.words.specs.leaf.Turns.{gSlope}
 use Rattle.words.proofs.Sums.{_&_, _⊕_, bit-&, bit-⊕, seen}

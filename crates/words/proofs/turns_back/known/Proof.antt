@@ -5,7 +5,7 @@ use native.Mathlib.Nat.{mod-lt}
 use native.Mathlib.Omega.{arith}
 use lib.Bits.{bitXor}
 use lib.Pow.{pow-pos}
-use Rattle.quark.specs.leaf.Word.{wordBit}
+use Rattle.quark.specs.Word.{wordBit}
 use Rattle.quark.proofs.Word.{wordBit-mod}
 use Rattle.words.specs.Words.{value}
 use Rattle.words.proofs.Feeds.{as-sum, placed-sum}
