@@ -8,7 +8,7 @@ use borrow.Author.Tests.{eqb-true, not-false, eq-eqb, ne-eqb}
 use lib.Dec.{eqb}
 use lib.ListN.{length}
 use Rattle.quark.specs.Feedback.{Taps}
-use Rattle.permutation.specs.Lines.{isWidth, stateBytes, line1, line4, line5, firstLine}
+use Rattle.permutation.specs.Lines.{isInstance, isWidth, stateBytes, line1, line4, line5, firstLine}
 use Rattle.permutation.specs.Outcome.{Outcome, accepted, refused, outcome}
 use Rattle.permutation.specs.Permute.{permuteNumber, onBytes, overwritten}
 
@@ -29,6 +29,10 @@ module _ (i w size : ℕ) (none : permuteNumber i w size ≡ 0) where
       let first = passed (line1 i) 0 ((line4 i w, 4) ∷ (line5 i size, 5) ∷ []) none in
       let second = passed (line4 i w) 3 ((line5 i size, 5) ∷ []) (first .1) in
       (first .0, second .0, passed (line5 i size) 4 [] (second .1) .0)
+
+  pub accepted-instance : isInstance i ≡ true
+  unfolding line1
+  accepted-instance = not-false (isInstance i) (lines-pass .0)
 
   pub accepted-width : isWidth i w ≡ true
   unfolding line4

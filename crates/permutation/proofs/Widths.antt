@@ -8,8 +8,9 @@ use lib.Dec.{eqb, lit≤}
 use Rattle.quark.specs.Step.{rounds}
 use Rattle.quark.specs.Instance.{U, D, S, instanceOf}
 use Rattle.quark.proofs.Instance.{of-each}
+use Rattle.words.specs.Words.{isKnown}
 use Rattle.words.specs.leaf.Turns.{Turns}
-use Rattle.permutation.specs.Lines.{isWidth}
+use Rattle.permutation.specs.Lines.{isInstance, isWidth}
 
 -- the bits of a half and of a state, as the cells have them
 pub half-fits : (i : ℕ) → (64 ≤ instanceOf i .taps .half) × (instanceOf i .b ≡ instanceOf i .taps .half + instanceOf i .taps .half) × (instanceOf i .b ≤ 256)
@@ -17,6 +18,11 @@ unfolding U D S
 half-fits =
     of-each (λ I. (64 ≤ I .taps .half) × (I .b ≡ I .taps .half + I .taps .half) × (I .b ≤ 256)) (lit≤ tt, refl, lit≤ tt) (lit≤ tt, refl, lit≤ tt)
     (lit≤ tt, refl, lit≤ tt)
+
+-- an instance's number, as `words` has it
+pub known : (i : ℕ) → isInstance i ≡ true → isKnown i ≡ true
+unfolding isInstance isKnown
+known i e = e
 
 -- a width that line 4 lets pass is 1, or one of several steps together
 pub several : (i w : ℕ) → isWidth i w ≡ true → (w ≡ 1 → ⊥) → Turns i w

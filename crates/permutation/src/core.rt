@@ -7,7 +7,7 @@ ghost use lib.ListN.{length, take, drop};
 ghost use Rattle.quark.specs.Step.{rounds};
 ghost use Rattle.quark.specs.Instance.{instanceOf};
 ghost use Rattle.permutation.specs.leaf.Core.{Cells, turned};
-ghost use Rattle.permutation.specs.Lines.{isWidth};
+ghost use Rattle.permutation.specs.Lines.{isInstance, isWidth};
 ghost use Rattle.permutation.specs.Outcome.{outcomeOf};
 ghost use Rattle.permutation.specs.Permute.{permuteOutcome, overwritten};
 use crate::Answer;
@@ -38,6 +38,7 @@ pub fn turn(inverse: bool, bits: &mut [u8; 256], instance: u32, width: u32)
     requires { ⌜ length (now bits) ≡ 256 ⌝ }
     requires { ⌜ Cells (now bits) ⌝ }
     requires { ⌜ isWidth instance width ≡ true ⌝ }
+    requires { ⌜ isInstance instance ≡ true ⌝ }
     ensures { λ _. ⌜ now (bits .exit)
         ≡ turned inverse (instanceOf instance .taps) (take (instanceOf instance .b) (now (bits .entry))) ++ drop (instanceOf instance .b) (now (bits .entry)) ⌝ }
 {

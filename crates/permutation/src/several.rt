@@ -1,5 +1,6 @@
 // Several steps together on the 256 cells of single bits (document 01, "Steps, permutation and inverse"): X and Y are taken from them as
 // words, stepped by the crate `words`, and put back. A half is 68, 88 or 128 bits, so that lo is always full.
+ghost use mathlib.Core.Bool.{true};
 ghost use mathlib.Core.Path.{_≡_};
 ghost use Prim.Native.Nat.{_+_, _%_, _^_, _≤_, _<_};
 ghost use lib.ListN.{length, take, drop};
@@ -7,6 +8,7 @@ ghost use Rattle.quark.specs.Instance.{instanceOf};
 ghost use Rattle.quark.specs.Word.{wordBits};
 ghost use Rattle.words.specs.Words.{value};
 ghost use Rattle.words.specs.leaf.Turns.{Turns};
+ghost use Rattle.permutation.specs.Lines.{isInstance};
 ghost use Rattle.permutation.specs.leaf.Core.{Cells, ran, undone};
 ghost use Rattle.permutation.specs.leaf.Several.{written};
 use crate::taps::half_of;
@@ -77,7 +79,7 @@ fn save(r: Register, bits: &mut [u8; 256], from: usize, half: usize)
 
 // `count` steps, `width` at a time, from L's value l.
 pub fn run(bits: &mut [u8; 256], instance: u32, width: u32, l: u32, count: u32)
-    requires { ⌜ Turns instance width × (l < 1024) × (count % width ≡ 0) × (length (now bits) ≡ 256) × Cells (now bits) ⌝ }
+    requires { ⌜ Turns instance width × (l < 1024) × (count % width ≡ 0) × (length (now bits) ≡ 256) × Cells (now bits) × (isInstance instance ≡ true) ⌝ }
     ensures { λ _. ⌜ now (bits .exit) ≡ ran (instanceOf instance) l count (now (bits .entry)) ⌝ }
 {
     let half = half_of(instance);
@@ -97,7 +99,7 @@ pub fn run(bits: &mut [u8; 256], instance: u32, width: u32, l: u32, count: u32)
 
 // `count` steps undone, `width` in a turn; l is L's value before them.
 pub fn undo(bits: &mut [u8; 256], instance: u32, width: u32, l: u32, count: u32)
-    requires { ⌜ Turns instance width × (l < 1024) × (count % width ≡ 0) × (length (now bits) ≡ 256) × Cells (now bits) ⌝ }
+    requires { ⌜ Turns instance width × (l < 1024) × (count % width ≡ 0) × (length (now bits) ≡ 256) × Cells (now bits) × (isInstance instance ≡ true) ⌝ }
     ensures { λ _. ⌜ now (bits .exit) ≡ undone (instanceOf instance) l count (now (bits .entry)) ⌝ }
 {
     let half = half_of(instance);

@@ -10,7 +10,7 @@ use lib.Dec.{eqb, ltb}
 use lib.Pow.{pow-add}
 use Rattle.quark.specs.Instance.{instanceOf}
 use Rattle.words.specs.declared.State.{State}
-use Rattle.words.specs.Words.{value, isTurn, fits, Fitting}
+use Rattle.words.specs.Words.{value, isKnown, isTurn, fits, Fitting}
 use Rattle.words.specs.leaf.Turns.{Turns}
 use Rattle.words.proofs.Widths.{tested-turn, turn-tested}
 
@@ -22,6 +22,7 @@ both false b e = absurd (false≢true e)
 
 -- what a call that fits has
 pub record Fits (i w n : ℕ) (s : State) : Type 0 where
+  pub known : isKnown i ≡ true
   pub turns : Turns i w
   pub whole : n % w ≡ 0
   pub words : Fitting (instanceOf i .taps) (s .x) (s .y) (s .l)
@@ -34,12 +35,15 @@ tested-fits i w n s e =
     let y = ltb (value (s .y)) bound in
     let x = ltb (value (s .x)) bound in
     let whole = eqb (n % w) 0 in
-    let four = both (isTurn i w && whole && x && y) l e in
-    let three = both (isTurn i w && whole && x) y (four .0) in
-    let two = both (isTurn i w && whole) x (three .0) in
-    let one = both (isTurn i w) whole (two .0) in
+    let turn = isKnown i && isTurn i w in
+    let four = both (turn && whole && x && y) l e in
+    let three = both (turn && whole && x) y (four .0) in
+    let two = both (turn && whole) x (three .0) in
+    let one = both turn whole (two .0) in
+    let first = both (isKnown i) (isTurn i w) (one .0) in
     record {
-      turns = tested-turn i w (one .0);
+      known = first .0;
+      turns = tested-turn i w (first .1);
       whole = eqb-true (n % w) 0 (one .1);
       words = record {
         fitsX = ltb-true (value (s .x)) bound (two .1);
@@ -53,6 +57,7 @@ unfolding fits
 fits-tested i w n s f =
     let bound = 2 ^ instanceOf i .taps .half in
     simp (
+      f .known,
       turn-tested i w (f .turns),
       eq-eqb (n % w) 0 (f .whole),
       lt-ltb (value (s .x)) bound (f .words .fitsX),

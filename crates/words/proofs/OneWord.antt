@@ -23,7 +23,7 @@ unfolding pack
 pack-same a b zero h = refl
 pack-same a b (suc w) h = ap₂ (λ (x y : ℕ). x * 2 ^ w + y) (h w (omega arith)) (pack-same a b w (λ j g. h j (omega arith)))
 
--- the last v bits stand behind the first w
+-- the last v bits stand above the first w
 digits : (a p q r s : ℕ) → a * (p * q) + (r * q + s) ≡ (a * p + r) * q + s
 digits a p q r s =
     ap (λ (x : ℕ). x + (r * q + s)) (sym (mul-assoc a p q))
@@ -119,7 +119,7 @@ module _ (n mask first : ℕ) (narrow : OneWord mask first) (zeros : n % 2 ^ 8 �
           ∙ ap₂ (λ (x y : ℕ). x + y) (ap ones read) (no-first (k + i) h)
           ∙ add-zero (ones (bitAnd (word / 2 ^ i) taps))
 
-  -- so the sums of eight steps are those of two words, the later four behind the first four
+  -- so the sums of eight steps are those of two words, the later four above the first four
   pub eight-sums : (w v m later r : ℕ) → w ≡ n / 2 ^ first % 2 ^ 64 → v ≡ n / 2 ^ (first + 4) % 2 ^ 64 → m ≡ mask / 2 ^ first % 2 ^ 64
       → later ≡ 0 * 16 + pack (maskSum v m) 4 → r ≡ later * 16 + pack (maskSum w m) 4 → r ≡ pack (maskSum n mask) 8
   eight-sums w v m later r ew ev em el er =
@@ -133,7 +133,7 @@ module _ (n mask first : ℕ) (narrow : OneWord mask first) (zeros : n % 2 ^ 8 �
       pack-same sum (maskSum w m) 4 (λ j g. ap sum (sym (zero-add j)) ∙ in-word 0 j w (omega arith) g from ∙ under w j) in
       er ∙ ap₂ (λ (x y : ℕ). x * 16 + y) (el ∙ zero-add (pack (maskSum v m) 4) ∙ sym high) (sym low) ∙ sym (pack-cat sum 4 4)
 
--- ---- four sums behind later ones, last step first
+-- ---- four sums with later ones above them, last step first
 
 -- when the steps from j on are done
 abbrev pub Behind : (later word mask j bits : ℕ) → Type 0

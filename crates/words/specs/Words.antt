@@ -26,7 +26,7 @@ pub record Fitting (T : Taps) (x y : Register) (l : ℕ) : Type 0 where
   pub fitsY : value y < 2 ^ T .half
   pub fitsL : l < 1024
 
--- the words of a state are those of x, y and l after n steps
+-- the words of a state are those of x, y and l after n steps; since they fit, they are determined by their bits
 pub record Stepped (T : Taps) (n : ℕ) (x y : Register) (l : ℕ) (s : State) : Type 0 where
   pub fitting : Fitting T (s .x) (s .y) (s .l)
   pub stepped : wordRegisters T (value (s .x)) (value (s .y)) (s .l) ≡ steps T n (wordRegisters T (value x) (value y) l)
@@ -40,12 +40,16 @@ pub record Undone (T : Taps) (n : ℕ) (x y : Register) (l : ℕ) (s : State) : 
   pub fitting : Fitting T (s .x) (s .y) (s .l)
   pub undone : wordRegisters T (value (s .x)) (value (s .y)) (s .l) ≡ undoSteps T n (afterL T n (value x) (value y) l)
 
+-- the numbers of U, D and S
+unfoldable pub isKnown : (instance : ℕ) → Bool
+isKnown i = eqb i 1 || eqb i 2 || eqb i 3
+
 -- the steps of an instance that are taken together: 8, and for S 16 too
 unfoldable pub isTurn : (instance width : ℕ) → Bool
 isTurn i w = eqb w 8 || (eqb w 16 && eqb i 3)
 
--- a call fits: its steps are whole turns, and its words hold no more than the registers' bits
+-- a call fits: its number is an instance's, its steps are whole turns, and its words hold no more than the registers' bits
 unfoldable pub fits : (instance width count : ℕ) → State → Bool
 fits i w n s =
     let bound = 2 ^ instanceOf i .taps .half in
-    isTurn i w && eqb (n % w) 0 && ltb (value (s .x)) bound && ltb (value (s .y)) bound && ltb (s .l) 1024
+    isKnown i && isTurn i w && eqb (n % w) 0 && ltb (value (s .x)) bound && ltb (value (s .y)) bound && ltb (s .l) 1024

@@ -252,7 +252,8 @@ fn sums(r: Register, mask: Register, width: u32) -> u64
     bits
 }
 
-// The sums of four steps, as a mask over one word, behind those of later steps. The mask stays and the word moves down, last step first.
+// The sums of four steps at the taps of a mask over one word, in bits 0 to 3; `later`, the sums of later steps, goes to the bits from 4 on.
+// The mask stays and the word moves down, last step first.
 fn four_sums(word: u64, mask: u64, later: u64) -> u64
     requires { ⌜ later < 16 ⌝ }
     ensures { λ w. ⌜ w ≡ later * 16 + pack (maskSum word mask) 4 ⌝ }
@@ -273,8 +274,8 @@ fn four_sums(word: u64, mask: u64, later: u64) -> u64
     bits
 }
 
-// The sums of the linear taps, as a mask over a register, for eight steps, where the register's first eight bits are 0: so the tap 0 adds
-// nothing. The other taps begin at `first` and four steps read them in one word.
+// The sums of the linear taps, as a mask over a register, for eight steps, where the register's first eight bits are 0: so the tap a0 adds
+// nothing. `first` is the first tap past it, and four steps read the taps from there on in one word.
 pub fn sums_past(r: Register, mask: Register, first: u32) -> u64
     requires { ⌜ (value r % 2 ^ 8 ≡ 0) × OneWord (value mask) first ⌝ }
     ensures { λ w. ⌜ w ≡ pack (maskSum (value r) (value mask)) 8 ⌝ }

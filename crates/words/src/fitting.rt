@@ -1,11 +1,25 @@
-// Which calls fit: the width is one of the instance's, the steps are whole turns, and the words hold no more than the registers' bits.
+// Which calls fit: the number is an instance's, the width is one of its own, the steps are whole turns, and the words hold no more than the
+// registers' bits.
 ghost use mathlib.Core.Path.{_≡_};
 ghost use Prim.Native.Nat.{_^_};
 ghost use lib.Dec.{ltb};
 ghost use Rattle.quark.specs.Instance.{instanceOf};
-ghost use Rattle.words.specs.Words.{value, isTurn, fits};
+ghost use Rattle.words.specs.Words.{value, isKnown, isTurn, fits};
 use crate::Register;
 use crate::State;
+
+// Whether a number is an instance's: 1 is U, 2 is D, 3 is S.
+fn is_known(instance: u32) -> bool
+    ensures { λ r. ⌜ r ≡ isKnown instance ⌝ }
+{
+    if instance == 1 {
+        return true;
+    }
+    if instance == 2 {
+        return true;
+    }
+    instance == 3
+}
 
 // Whether so many steps of an instance can be taken together.
 fn is_turn(instance: u32, width: u32) -> bool
@@ -37,6 +51,9 @@ fn is_half(r: Register, instance: u32) -> bool
 pub fn fits(instance: u32, width: u32, count: u32, state: State) -> bool
     ensures { λ r. ⌜ r ≡ fits instance width count state ⌝ }
 {
+    if !is_known(instance) {
+        return false;
+    }
     if !is_turn(instance, width) {
         return false;
     }

@@ -26,7 +26,8 @@ pub struct State {
     pub l: u64,
 }
 
-// The state `count` steps on, `width` taken together.
+// The state `count` steps on, `width` taken together. A call fits where the number is an instance's, the width is 8, or 16 for S, the count
+// is a multiple of it, X and Y have no bits past the half, and L is below 1024.
 // A call that does not fit gives the state as it was.
 pub fn run(instance: u32, width: u32, count: u32, state: State) -> State
     ensures taken { λ r. ⌜ (fits instance width count state ≡ true → Stepped (instanceOf instance .taps) count (state .x) (state .y) (state .l) r) ⌝ }
@@ -40,7 +41,7 @@ pub fn run(instance: u32, width: u32, count: u32, state: State) -> State
     turns::turns(x, y, state.l, instance, width, count / width)
 }
 
-// The state `count` steps before, `width` undone in a turn; state.l is what L was before them.
+// The state `count` steps before, `width` undone in a turn; state.l is what L was before them, and comes back. The same calls fit.
 // A call that does not fit gives the state as it was.
 pub fn undo(instance: u32, width: u32, count: u32, state: State) -> State
     ensures taken { λ r. ⌜ (fits instance width count state ≡ true → Undone (instanceOf instance .taps) count (state .x) (state .y) (state .l) r) ⌝ }

@@ -178,6 +178,7 @@ fn back_d(x: Register, y: Register, l: u64) -> State
     let f = masks.f;
     let g = masks.g;
     let parts = parts_d(x0, y0, before);
+    // 11 and 9 are the first taps of f and g past a0
     let sums = Gains {
         x: sums_past(x0, f, 11),
         y: sums_past(y0, g, 9),

@@ -69,7 +69,7 @@ pub record Masking (T : Taps) (m : Masks) : Type 0 where
   pub fNarrow : value (m .f) < 2 ^ 112
   pub gNarrow : value (m .g) < 2 ^ 112
 
--- a mask of the tap 0 and of taps that begin at `first`: four steps read these in one word from there on
+-- a mask of the tap 0 and of other taps within 61 places from `first` on: four steps read those in one word
 pub record OneWord (mask first : ℕ) : Type 0 where
   pub place : (0 < first) × (first < 64)
   pub begins : mask % 2 ^ first ≡ 1

@@ -244,7 +244,7 @@ fn sums(r: Register, mask: Register, width: u32) -> u64 {
     bits
 }
 
-/// The sums of four steps under a mask over one word, behind those of later steps: the word moves down, last step first.
+/// The sums of four steps under a mask over one word in bits 0 to 3, `later` from bit 4 on: the word moves down, last step first.
 #[inline(always)]
 fn four_sums(word: u64, mask: u64, later: u64) -> u64 {
     let mut bits = later;

@@ -7,7 +7,7 @@ use Rattle.permutation.specs.Outcome.{outcomeOf}
 use Rattle.permutation.specs.Lines.{stateBytes}
 use Rattle.permutation.specs.Permute.{permuteNumber, permuteOutcome}
 use Rattle.permutation.specs.leaf.Core.{turned}
-use Rattle.permutation.proofs.Accepted.{accepted-width, accepted-length, refused-outcome, accepted-outcome, refused-bytes, accepted-bytes}
+use Rattle.permutation.proofs.Accepted.{accepted-instance, accepted-width, accepted-length, refused-outcome, accepted-outcome, refused-bytes, accepted-bytes}
 use Rattle.permutation.proofs.Turn.{load-fits, load-length, load-cells, turn-cells, turn-bytes}
 use Rattle.permutation.proofs.core.overwrite.Statement.{statement}
 use Rattle.permutation.proofs.core.overwrite.Tie as tie
@@ -38,7 +38,7 @@ turn-requires c κs =
     sym (number .ensures) ∙ c .before .before .before .before .if1 .left in
     let n : length (a .buffer .now) ≡ stateBytes (a .instance) = accepted-length (a .instance) (a .width) _ none in (
       load-length (a .instance) (a .buffer .now) n _ (c .before .load .ensures),
-      (load-cells (a .instance) (a .buffer .now) n _ (c .before .load .ensures), accepted-width (a .instance) (a .width) _ none),
+      (load-cells (a .instance) (a .buffer .now) n _ (c .before .load .ensures), (accepted-width (a .instance) (a .width) _ none, accepted-instance (a .instance) (a .width) _ none)),
     )
 
 store-requires : tie.Need-store-requires

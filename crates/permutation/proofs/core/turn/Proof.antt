@@ -43,14 +43,14 @@ whole c =
     let start = c .before .before in
     let i = start .args .instance in
     let w = start .args .width in
-    let turns : Turns i w = several i w (start .pre .1 .1) (c .if1 .left) in
+    let turns : Turns i w = several i w (start .pre .1 .1 .0) (c .if1 .left) in
     (turns, ap (λ (n : ℕ). n % w) (c .before .rounds .ensures) ∙ rounds-whole i w turns)
 
 undo-requires-2 : tie.Need-undo-requires-2
 undo-requires-2 c κs =
     let several = c .before .before in
     let start = several .before .before in
-    (whole several .0, omega arith, whole several .1, start .pre .0, start .pre .1 .0)
+    (whole several .0, omega arith, whole several .1, start .pre .0, start .pre .1 .0, start .pre .1 .1 .1)
 
 returns-3 : tie.Need-returns-3
 returns-3 c =
@@ -63,7 +63,7 @@ run-requires-2 : tie.Need-run-requires-2
 run-requires-2 c κs =
     let several = c .before .before in
     let start = several .before .before in
-    (whole several .0, omega arith, whole several .1, start .pre .0, start .pre .1 .0)
+    (whole several .0, omega arith, whole several .1, start .pre .0, start .pre .1 .0, start .pre .1 .1 .1)
 
 returns-4 : tie.Need-returns-4
 returns-4 c =

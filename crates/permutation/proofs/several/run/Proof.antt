@@ -11,7 +11,7 @@ use Rattle.words.specs.Words.{value, fits}
 use Rattle.words.proofs.Fits.{fits-tested}
 use Rattle.permutation.specs.leaf.Several.{written}
 use Rattle.permutation.proofs.CellWords.{length-written, ran-words}
-use Rattle.permutation.proofs.Widths.{half-fits}
+use Rattle.permutation.proofs.Widths.{known, half-fits}
 use Rattle.permutation.proofs.several.run.Statement.{statement}
 use Rattle.permutation.proofs.several.run.Tie as tie
 
@@ -46,6 +46,7 @@ fitting c =
     let e = half .half-of .ensures .0 in
     fits-tested (s .args .instance) (s .args .width) (s .args .count) (record { x = x .load .result; y = c .load2 .result; l = s .args .l })
     (record {
+      known = known (s .args .instance) (s .pre .5);
       turns = s .pre .0;
       whole = s .pre .2;
       words = record {

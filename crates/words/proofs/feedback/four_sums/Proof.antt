@@ -1,6 +1,5 @@
 -- `words::feedback::four_sums` meets its contract. The invariant: the bits are the later ones and those of the steps from j on. Assumes
 -- nothing.
-use mathlib.Core.Path.{_≡_}
 use Prim.Native.Nat.{_≤_, _<_, _-_, _^_}
 use native.Mathlib.Omega.{arith}
 use borrow.Author.Needs.{needs}
