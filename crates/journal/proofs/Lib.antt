@@ -1,12 +1,14 @@
--- The laws of journals and lines.
-pub mod Growing
+-- The laws of journals and texts.
+pub mod GrowingText
 pub mod Decimal
-pub mod Found
+pub mod Finding
 pub mod Reading
 pub mod ReadInTurn
-pub mod Places
-pub mod Turns
+pub mod RecordParts
+pub mod RecordByRecord
 pub mod Accepted
+pub mod VerifyLoop
+pub mod Input
 pub mod Fits
 pub mod SealedInTurn
 pub mod Samples

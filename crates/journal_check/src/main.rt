@@ -40,8 +40,8 @@ fn read_input(buffer: &mut [u8]) -> usize
 fn main() {
     let mut buffer = [0u8; MOST];
     let size = read_input(&mut buffer);
-    let line = journal::report(&buffer[0..size]);
-    let len = line.len;
-    let bytes = line.bytes;
+    let text = journal::report(&buffer[0..size]);
+    let len = text.len;
+    let bytes = text.bytes;
     io::write_all(STDOUT_FILENO, &bytes[0..len]);
 }

@@ -1,27 +1,30 @@
--- Bits in cells and in words: the number that some cells hold, and the cells with a number's bits in them. Assumes nothing.
+-- Bits in cells and in words: the number that some cells hold, and the cells with a number's bits in them.
+use mathlib.Core.Bool.{Bool, true, false}
 use mathlib.Core.List.{List, [], _∷_, _++_, append-assoc}
 use mathlib.Core.Path.{_≡_, refl, sym, ap, ap₂, _∙_}
-use Prim.Native.Nat.{ℕ, zero, suc, _+_, _-_, _*_, _^_, _≤_, _<_}
-use native.Mathlib.Nat.{add-zero, add-suc, add-comm, add-assoc, zero-add, suc-add, pow-suc}
+use Prim.Native.Nat.{ℕ, suc, _+_, _-_, _*_, _^_, _≤_, _<_}
+use native.Mathlib.Nat.{add-zero, add-suc, add-comm, add-assoc, zero-add, pow-suc}
 use native.Mathlib.Omega.{arith}
 use lib.Arith.{digits-lt}
 use lib.ListN.{length, getD, take, drop, set, length-append, length-drop, take-append-drop}
 use lib.Pow.{pow-add}
-use lib.Seq.{drop-cons, set-at, length-take-le, drop-drop, drop-at, take-at}
+use lib.Seq.{drop-cons, set-at, length-take-le, take-take, take-add, drop-drop, drop-at, take-at}
 use Rattle.quark.specs.Feedback.{Taps}
-use Rattle.quark.specs.Instance.{Instance}
+use Rattle.quark.specs.Instance.{Instance, instanceOf}
 use Rattle.quark.specs.Inverse.{undoSteps}
 use Rattle.quark.specs.Step.{Registers, steps, stepsL, loaded, stored}
 use Rattle.quark.specs.Word.{wordBit, wordBits}
 use Rattle.quark.proofs.Together.{registers-path}
 use Rattle.quark.proofs.Word.{length-wordBits, append-wordBits, cons-wordBits, snoc-wordBits}
 use Rattle.words.specs.declared.Register.{Register}
-use Rattle.words.specs.declared.State.{State}
-use Rattle.words.specs.Words.{value, wordRegisters, afterL, Stepped, Undone}
-use Rattle.permutation.specs.leaf.Core.{ran, undone}
-use Rattle.permutation.specs.leaf.Several.{written}
+use Rattle.words.specs.declared.RegisterWords.{RegisterWords}
+use Rattle.words.specs.Words.{value, wordRegisters, afterL, fits}
+use Rattle.words.proofs.Fits.{fits-tested}
+use Rattle.permutation.specs.leaf.Core.{Steppable, ran, undone, ranOrUndone}
+use Rattle.permutation.specs.leaf.Several.{SteppedOrUndone, written}
+use Rattle.permutation.proofs.Cells.{drop-take}
 
--- r holds the k bits of s from place p on
+-- r holds the k bits of s from cell p on
 abbrev pub Holds : List ℕ → (k p r : ℕ) → Type 0
 Holds s k p r = (r < 2 ^ k) × (wordBits k r ≡ take k (drop p s))
 
@@ -57,25 +60,16 @@ written-more s word p i h =
 pub words-append : (a c hi lo : ℕ) → lo < 2 ^ a → wordBits (a + c) (hi * 2 ^ a + lo) ≡ wordBits a lo ++ wordBits c hi
 words-append a c hi lo h = sym (append-wordBits a c lo hi h)
 
-nothing : (n : ℕ) → take {A = ℕ} n [] ≡ []
-nothing zero = refl
-nothing (suc n) = refl
-
-take-take-drop : (a c : ℕ) (s : List ℕ) → take a s ++ take c (drop a s) ≡ take (a + c) s
-take-take-drop zero c s = ap (λ (n : ℕ). take n s) (sym (zero-add c))
-take-take-drop (suc a) c [] = nothing c ∙ sym (nothing (suc a + c))
-take-take-drop (suc a) c (v ∷ s) = ap (λ (l : List ℕ). v ∷ l) (take-take-drop a c s) ∙ ap (λ (n : ℕ). take n (v ∷ s)) (sym (suc-add a c))
-
--- two words that hold a bits and the c bits behind them hold both
+-- two words that hold a bits and the c bits after them hold both
 pub holds-words : (s : List ℕ) (a c p hi lo : ℕ) → Holds s a p lo → Holds s c (p + a) hi → Holds s (a + c) p (hi * 2 ^ a + lo)
 holds-words s a c p hi lo hl hh = (
   rw (add-comm a c, pow-add) (digits-lt (hh .0) (hl .0)),
   words-append a c hi lo (hl .0)
       ∙ ap₂ _++_ (hl .1) (hh .1 ∙ ap (take c) (sym (drop-drop a p s)))
-      ∙ take-take-drop a c (drop p s),
+      ∙ sym (take-add a c (drop p s)),
 )
 
--- a bits of one word written, and c bits of another behind them
+-- a bits of one word written, and c bits of another after them
 pub written-words : (s : List ℕ) (a c p hi lo : ℕ) → p + (a + c) ≤ length s → lo < 2 ^ a
     → written (written s p a lo) (p + a) c hi ≡ written s p (a + c) (hi * 2 ^ a + lo)
 written-words s a c p hi lo h b =
@@ -97,20 +91,13 @@ length-written s p n word h =
     length-append (wordBits n word) (drop (p + n) s) ∙ ap₂ (λ (x y : ℕ). x + y) (length-wordBits n word) (length-drop (p + n) s) in
     length-append (take p s) (wordBits n word ++ drop (p + n) s) ∙ ap₂ (λ (x y : ℕ). x + y) (length-take-le p s (omega arith)) e ∙ omega arith
 
--- a part of a part
-take-take : (a c : ℕ) (s : List ℕ) → a ≤ length s → take a (take (a + c) s) ≡ take a s
-take-take a c s h = ap (take a) (sym (take-take-drop a c s)) ∙ take-at (take a s) (take c (drop a s)) a (length-take-le a s h)
-
-drop-take : (a c : ℕ) (s : List ℕ) → a ≤ length s → drop a (take (a + c) s) ≡ take c (drop a s)
-drop-take a c s h = ap (drop a) (sym (take-take-drop a c s)) ∙ drop-at (take a s) (take c (drop a s)) a (length-take-le a s h)
-
 -- cells that hold X and then Y, with L beside them, are the registers that the words hold
 pub loaded-words : (T : Taps) (s : List ℕ) (b x y : ℕ) (L : List ℕ) → b ≡ T .half + T .half → b ≤ length s
     → wordBits (T .half) x ≡ take (T .half) (drop 0 s) → wordBits (T .half) y ≡ take (T .half) (drop (T .half) s)
     → loaded T (take b s) L ≡ record { X = wordBits (T .half) x; Y = wordBits (T .half) y; L = L }
 unfolding loaded
 loaded-words T s b x y L e h ex ey =
-    registers-path (ap (λ (n : ℕ). take (T .half) (take n s)) e ∙ take-take (T .half) (T .half) s (omega arith) ∙ sym ex)
+    registers-path (ap (λ (n : ℕ). take (T .half) (take n s)) e ∙ take-take (T .half) (T .half + T .half) s (omega arith) ∙ sym ex)
     (ap (λ (n : ℕ). drop (T .half) (take n s)) e ∙ drop-take (T .half) (T .half) s (omega arith) ∙ sym ey) refl
 
 -- the words written to the cells are the registers stored there
@@ -123,23 +110,36 @@ stored-words T s b x y l e h less =
     ∙ written-words s half half 0 y x (rw zero-add (omega arith)) less
     ∙ ap₂ (λ (r : List ℕ) (n : ℕ). r ++ drop n s) (words-append half half y x less) (zero-add (half + half) ∙ sym e)
 
-module _ (I : Instance) (s : List ℕ) (e : I .b ≡ I .taps .half + I .taps .half) (long : I .b ≤ length s) (x y : Register) (l n : ℕ) (t : State)
-    (ex : wordBits (I .taps .half) (value x) ≡ take (I .taps .half) (drop 0 s)) (ey : wordBits (I .taps .half) (value y) ≡ take (I .taps .half) (drop (I .taps .half) s)) where
-  -- words that were loaded, taken n steps and written back
-  pub ran-words : Stepped (I .taps) n x y l t
-      → written (written s 0 (I .taps .half) (value (t .x))) (I .taps .half) (I .taps .half) (value (t .y)) ≡ ran I l n s
-  unfolding ran wordRegisters
-  ran-words a =
+-- words that were loaded from cells, taken n steps or n steps back, and written back
+module _ (I : Instance) (s : List ℕ) (e : I .b ≡ I .taps .half + I .taps .half) (long : I .b ≤ length s) (x y : Register) (l n : ℕ) (t : RegisterWords) where
+  on-halves : (inverse : Bool) → Holds s (I .taps .half) 0 (value x) → Holds s (I .taps .half) (I .taps .half) (value y)
+      → SteppedOrUndone inverse (I .taps) n x y l t
+      → written (written s 0 (I .taps .half) (value (t .x))) (I .taps .half) (I .taps .half) (value (t .y)) ≡ ranOrUndone inverse I l n s
+  unfolding ranOrUndone ran undone wordRegisters afterL
+  on-halves false hx hy a =
       stored-words (I .taps) s (I .b) (value (t .x)) (value (t .y)) (t .l) e long (a .fitting .fitsX)
       ∙ ap (λ (r : Registers). stored r ++ drop (I .b) s)
-      (a .stepped ∙ ap (steps (I .taps) n) (sym (loaded-words (I .taps) s (I .b) (value x) (value y) (wordBits 10 l) e long ex ey)))
-
-  -- words that were loaded, taken n steps back and written back
-  pub undone-words : Undone (I .taps) n x y l t
-      → written (written s 0 (I .taps .half) (value (t .x))) (I .taps .half) (I .taps .half) (value (t .y)) ≡ undone I l n s
-  unfolding undone afterL
-  undone-words a =
+      (a .stepped ∙ ap (steps (I .taps) n) (sym (loaded-words (I .taps) s (I .b) (value x) (value y) (wordBits 10 l) e long (hx .1) (hy .1))))
+  on-halves true hx hy a =
       stored-words (I .taps) s (I .b) (value (t .x)) (value (t .y)) (t .l) e long (a .fitting .fitsX)
       ∙ ap (λ (r : Registers). stored r ++ drop (I .b) s)
       (a .undone
-      ∙ ap (undoSteps (I .taps) n) (sym (loaded-words (I .taps) s (I .b) (value x) (value y) (stepsL n (wordBits 10 l)) e long ex ey)))
+      ∙ ap (undoSteps (I .taps) n) (sym (loaded-words (I .taps) s (I .b) (value x) (value y) (stepsL n (wordBits 10 l)) e long (hx .1) (hy .1))))
+
+  pub ran-or-undone-words : (inverse : Bool) (half : ℕ) → half ≡ I .taps .half → Holds s half 0 (value x) → Holds s half half (value y)
+      → SteppedOrUndone inverse (I .taps) n x y l t
+      → written (written s 0 half (value (t .x))) half half (value (t .y)) ≡ ranOrUndone inverse I l n s
+  ran-or-undone-words inverse half eh hx hy a = rw eh (on-halves inverse (rw eh at hx) (rw eh at hy) a)
+
+-- such words, with an L of ten bits, fit
+pub loaded-fit : {i w l n : ℕ} {s : List ℕ} → Steppable i w l n s → (w ≡ 1 → ⊥) → (x y : Register) (half p : ℕ) → half ≡ instanceOf i .taps .half
+    → Holds s half 0 (value x) → Holds s half p (value y) → fits i w n (record { x = x; y = y; l = l }) ≡ true
+loaded-fit {i} {w} {l} {n} given more x y half p e hx hy =
+    fits-tested i w n (record { x = x; y = y; l = l })
+    (record {
+      known = given .is-instance;
+      width = given .is-width;
+      more = more;
+      whole = given .whole;
+      words = record { fitsX = rw e at (hx .0); fitsY = rw e at (hy .0); fitsL = given .small };
+    })

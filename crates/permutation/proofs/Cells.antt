@@ -1,5 +1,4 @@
 -- Cells that hold X, then Y, then others: moved down or up by one, with two bits set, they hold X and Y after a step or before it.
--- Assumes nothing.
 use mathlib.Core.Path.{_≡_, refl, sym, ap, ap₂, _∙_}
 use mathlib.Core.List.{List, [], _∷_, _++_, append-assoc}
 use Prim.Native.Nat.{ℕ, suc, _+_, _-_, _<_, _≤_}
@@ -7,9 +6,10 @@ use native.Mathlib.Nat.{not-suc-le-zero}
 use native.Mathlib.Numerals.{add-one}
 use native.Mathlib.Omega.{arith}
 use lib.ListN.{length, getD, take, drop, set, length-append, length-take, length-drop, take-append-drop, drop-of-length-le, List·getD-append}
-use lib.Seq.{take-suc, drop-cons, set-at, take-at, drop-at, take-append-le, take-append-add, getD-append-add, getD-drop, getD-take, length-take-le, take-all}
+use lib.Seq.{take-suc, drop-cons, set-at, take-at, drop-at, take-append-le, take-append-add, getD-append-add, getD-drop, getD-take, length-take-le, take-add}
 use Rattle.quark.specs.Step.{shift}
 use Rattle.quark.specs.Inverse.{unshift}
+use Rattle.quark.proofs.Bits.{split-last}
 
 -- the first b cells moved down by one, and moved up by one
 abbrev pub down : ℕ → List ℕ → List ℕ
@@ -78,6 +78,10 @@ up-start c b z q =
 
 -- ---- X, then Y, then others
 
+-- the c cells after the first a
+pub drop-take : (a c : ℕ) (s : List ℕ) → a ≤ length s → drop a (take (a + c) s) ≡ take c (drop a s)
+drop-take a c s h = ap (drop a) (take-add a c s) ∙ drop-at (take a s) (take c (drop a s)) a (length-take-le a s h)
+
 -- moved down by one, with a new bit at the end of X and of Y
 pub down-two : (X Y R : List ℕ) (h x y : ℕ) → 0 < h → length X ≡ h → length Y ≡ h
     → set (set (down (h + h) (X ++ (Y ++ R))) (h - 1) x) (h + h - 1) y ≡ shift X x ++ (shift Y y ++ R)
@@ -105,19 +109,12 @@ down-two (x0 ∷ X) (y0 ∷ Y) R h x y z p q =
     ∙ set-at (X ++ (x ∷ Y)) v R y last m′
     ∙ simp append-assoc
 
--- a register is its bits but the last, and the last
-ends : (n : ℕ) (X : List ℕ) → length X ≡ suc n → X ≡ take n X ++ (getD X n 0 ∷ [])
-ends n X p =
-    let k : n < length X = omega arith in
-    let a : length X ≤ suc n = omega arith in
-    sym (take-all (suc n) X a) ∙ take-suc X n 0 k
-
 -- 0 for the first of the cells
 first-zero : (c Z : List ℕ) → 0 < length c → set (take 1 c ++ Z) 0 0 ≡ 0 ∷ Z
 first-zero [] Z p = absurd (not-suc-le-zero p)
 first-zero (v ∷ c) Z p = refl
 
--- the cells but the last of Y, and the cells behind Y
+-- the cells but the last of Y, and the cells after Y
 up-front : (X Y R : List ℕ) (h : ℕ) → 0 < h → length X ≡ h → length Y ≡ h → take (h + h - 1) (X ++ (Y ++ R)) ≡ X ++ take (h - 1) Y
 up-front X Y R h z p q =
     let e : h + h - 1 ≡ length X + (h - 1) = omega arith in
@@ -144,7 +141,7 @@ up-two X Y R h z p q =
     let front : take (h + h - 1) (X ++ (Y ++ R)) ≡ X ++ take n Y = up-front X Y R h z p q in
     let back : drop (h + h) (X ++ (Y ++ R)) ≡ R = up-back X Y R h p q in
     let regroup : (X ++ take n Y) ++ R ≡ take n X ++ (v ∷ (take n Y ++ R)) =
-    ap (λ (l : List ℕ). (l ++ take n Y) ++ R) (ends n X (omega arith)) ∙ simp append-assoc in
+    ap (λ (l : List ℕ). (l ++ take n Y) ++ R) (sym (split-last n X (omega arith))) ∙ simp append-assoc in
     ap (λ (l : List ℕ). set l h 0) (first-zero (X ++ (Y ++ R)) _ (simp length-append (omega arith)))
     ∙ ap₂ (λ (a c : List ℕ). set (0 ∷ (a ++ c)) h 0) front back
     ∙ ap₂ (λ (l : List ℕ) (k : ℕ). set (0 ∷ l) k 0) regroup e

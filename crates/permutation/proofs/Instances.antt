@@ -1,4 +1,4 @@
--- The taps that the serial form reads: all below the half. Assumes nothing.
+-- The taps that the serial form reads: all below the half.
 use mathlib.Core.List.{[], _∷_}
 use Prim.Native.Nat.{ℕ, _+_, _≤_, _<_}
 use native.Mathlib.Omega.{arith}

@@ -1,27 +1,26 @@
 -- The registers X and Y in the first b of 256 cells: the parts that are lent, and what a step, a step undone and many of either leave.
--- Assumes nothing.
 use mathlib.Core.List.{List, _++_, append-assoc}
 use mathlib.Core.Path.{_≡_, refl, sym, ap, ap₂, _∙_}
 use Prim.Native.Nat.{ℕ, _+_, _*_, _-_, _%_, _<_, _≤_}
 use native.Mathlib.Nat.{add-zero, sub-zero}
 use native.Mathlib.Omega.{arith}
 use lib.ListN.{length, getD, take, drop, set, length-append, length-take, length-drop, take-append-drop, List·getD-append}
-use lib.Seq.{take-take, take-add, take-at, drop-at, getD-append-add, length-take-le}
+use lib.Seq.{take-take, take-at, drop-at, getD-append-add}
 use Rattle.quark.specs.Bytes.{bit}
 use Rattle.quark.specs.Feedback.{Taps, feedback, f, g, h}
 use Rattle.quark.specs.Step.{Registers, shift, stepL, step, loaded, stored}
 use Rattle.quark.specs.Inverse.{unshift, gained, undoStepL, undoStep}
-use Rattle.quark.specs.Instance.{Instance}
+use Rattle.quark.specs.Instance.{Instance, instanceOf}
 use Rattle.quark.specs.Word.{wordBits}
 use Rattle.quark.specs.leaf.Together.{gainX, gainY}
 use Rattle.quark.proofs.Bits.{Bits, more, Wide, parity-lt, bits-append, bits-take, bits-drop, bits-at, bits-of}
 use Rattle.quark.proofs.Word.{wide-wordBits}
 use Rattle.quark.proofs.Together.{registers-path}
 use Rattle.quark.proofs.Inverse.{Sized, sized-loaded, sized-step, sized-undoStep}
-use Rattle.quark.proofs.Instance.{Regular}
+use Rattle.quark.proofs.Instance.{Regular, regular, in-bytes}
 use Rattle.permutation.specs.leaf.Core.{Cells}
-use Rattle.permutation.specs.leaf.Serial.{registers, Turned}
-use Rattle.permutation.proofs.Cells.{down, up, down-two, up-two, set-fronts}
+use Rattle.permutation.specs.leaf.Serial.{registers, CellsHold}
+use Rattle.permutation.proofs.Cells.{down, up, drop-take, down-two, up-two, set-fronts}
 
 -- the bits of f, g and h are single bits, and so is the bit that a register gained
 pub f-small : (T : Taps) (X : ℕ → ℕ) → f T X < 2
@@ -48,10 +47,6 @@ wide-zero {n} {r} p w =
     let z : 0 < 2 = omega arith in
     (simp length-take (omega arith), more z (bits-take (length r - 1) (w .1)))
 
--- the second n of 2 n cells
-drop-take : (n : ℕ) (c : List ℕ) → n ≤ length c → drop n (take (n + n) c) ≡ take n (drop n c)
-drop-take n c p = ap (drop n) (take-add n n c) ∙ drop-at (take n c) (take n (drop n c)) n (length-take-le n c p)
-
 -- ---- X, then Y, then others
 
 split : (I : Instance) (cells : List ℕ) (l : ℕ) → registers I cells l .X ++ (registers I cells l .Y ++ drop (I .b) cells) ≡ cells
@@ -61,48 +56,59 @@ split I cells l =
     ∙ ap (λ (s : List ℕ). s ++ drop (I .b) cells) (take-append-drop (I .taps .half) (take (I .b) cells))
     ∙ take-append-drop (I .b) cells
 
--- what the code knows where it reads or moves the cells
-pub record Ready (I : Instance) (cells : List ℕ) (l half : ℕ) : Type 0 where
+-- 256 single bits, of which the first b hold X and Y
+pub record SerialCells (I : Instance) (cells : List ℕ) (l half : ℕ) : Type 0 where
   pub regular : Regular I
+  pub fits : I .b ≤ 256
   pub full : length cells ≡ 256
   pub single : Cells cells
   pub is-half : half ≡ I .taps .half
 
-module _ {I : Instance} {cells : List ℕ} {l half : ℕ} (ready : Ready I cells l half) where
+pub serial-cells : (i : ℕ) (cells : List ℕ) (l half : ℕ) → half ≡ instanceOf i .taps .half → length cells ≡ 256 → Cells cells
+    → SerialCells (instanceOf i) cells l half
+serial-cells i cells l half e full single = record {
+  regular = regular i;
+  fits = in-bytes i .at-most-256;
+  full = full;
+  single = single;
+  is-half = e;
+}
+
+module _ {I : Instance} {cells : List ℕ} {l half : ℕ} (given : SerialCells I cells l half) where
   -- the parts of the cells that the code lends as X and as Y
   pub x-part : take (half - 0) cells ≡ registers I cells l .X
   unfolding registers loaded
   x-part =
-      ap (λ (n : ℕ). take n cells) (sub-zero half ∙ ready .is-half)
-      ∙ sym (take-take (I .taps .half) (I .b) cells (omega (arith, ready .regular .two-halves)))
+      ap (λ (n : ℕ). take n cells) (sub-zero half ∙ given .is-half)
+      ∙ sym (take-take (I .taps .half) (I .b) cells (omega (arith, given .regular .two-halves)))
 
   pub y-part : take (half + half - half) (drop half cells) ≡ registers I cells l .Y
   unfolding registers loaded
   y-part =
       let n : half + half - half ≡ half = omega arith in
-      let b : I .taps .half + I .taps .half ≡ I .b = omega (arith, ready .regular .two-halves) in
-      let p : I .taps .half ≤ length cells = omega (arith, ready .full, ready .regular .at-most-256, ready .regular .two-halves) in
+      let b : I .taps .half + I .taps .half ≡ I .b = omega (arith, given .regular .two-halves) in
+      let p : I .taps .half ≤ length cells = omega (arith, given .full, given .fits, given .regular .two-halves) in
       ap (λ (k : ℕ). take k (drop half cells)) n
-      ∙ ap (λ (k : ℕ). take k (drop k cells)) (ready .is-half)
-      ∙ sym (drop-take (I .taps .half) cells p)
+      ∙ ap (λ (k : ℕ). take k (drop k cells)) (given .is-half)
+      ∙ sym (drop-take (I .taps .half) (I .taps .half) cells p)
       ∙ ap (λ (k : ℕ). drop (I .taps .half) (take k cells)) b
 
   pub sized : Sized (I .taps) (registers I cells l)
   unfolding registers
   sized =
       let n : length (take (I .b) cells) ≡ 2 * I .taps .half =
-      simp length-take (omega (arith, ready .full, ready .regular .two-halves, ready .regular .at-most-256)) in
-      sized-loaded (I .taps) (ready .regular .lawful) (take (I .b) cells) (wordBits 10 l) (n, bits-take (I .b) (bits-of cells (ready .single)))
+      simp length-take (omega (arith, given .full, given .regular .two-halves, given .fits)) in
+      sized-loaded (I .taps) (given .regular .lawful) (take (I .b) cells) (wordBits 10 l) (n, bits-take (I .b) (bits-of cells (given .single)))
       (wide-wordBits 10 l)
 
   nx : length (registers I cells l .X) ≡ half
-  nx = sized .wideX .0 ∙ sym (ready .is-half)
+  nx = sized .wideX .0 ∙ sym (given .is-half)
 
   ny : length (registers I cells l .Y) ≡ half
-  ny = sized .wideY .0 ∙ sym (ready .is-half)
+  ny = sized .wideY .0 ∙ sym (given .is-half)
 
   positive : 0 < half
-  positive = rw (ready .is-half) (ready .regular .lawful .some-half)
+  positive = rw (given .is-half) (given .regular .lawful .some-half)
 
   -- ---- the cells that a step reads besides f, g and h
 
@@ -135,14 +141,14 @@ module _ {I : Instance} {cells : List ℕ} {l half : ℕ} (ready : Ready I cells
   -- ---- a step, and a step undone
 
   module _ (l′ : ℕ) (small : l′ < 1024) where
-    -- cells that hold other registers, with the same others behind
-    turned : (s : Registers) → Sized (I .taps) s → wordBits 10 l′ ≡ s .L → {after : List ℕ} → after ≡ s .X ++ (s .Y ++ drop (I .b) cells)
-        → Turned I s cells after l′
+    -- cells that hold other registers, with the same others after them
+    cells-hold : (s : Registers) → Sized (I .taps) s → wordBits 10 l′ ≡ s .L → {after : List ℕ} → after ≡ s .X ++ (s .Y ++ drop (I .b) cells)
+        → CellsHold I s cells after l′
     unfolding registers loaded
-    turned s z el {after} e =
+    cells-hold s z el {after} e =
         let b = I .b in
         let rest = drop b cells in
-        let two = ready .regular .two-halves in
+        let two = given .regular .two-halves in
         let nX : length (s .X) ≡ I .taps .half = z .wideX .0 in
         let nY : length (s .Y) ≡ I .taps .half = z .wideY .0 in
         let n : length (s .X ++ s .Y) ≡ b = simp length-append (omega arith) in
@@ -153,19 +159,19 @@ module _ {I : Instance} {cells : List ℕ} {l half : ℕ} (ready : Ready I cells
               (ap (drop (I .taps .half)) front ∙ drop-at (s .X) (s .Y) (I .taps .half) nX) el;
           rest = ap (drop b) grouped ∙ drop-at (s .X ++ s .Y) rest b n;
           small = small;
-          full = ap length grouped ∙ simp (length-append, length-drop) (omega (arith, ready .full, ready .regular .at-most-256));
-          cells = λ i. rw e (bits-at (bits-append (z .wideX .1) (bits-append (z .wideY .1) (bits-drop b (bits-of cells (ready .single))))) i);
+          full = ap length grouped ∙ simp (length-append, length-drop) (omega (arith, given .full, given .fits));
+          cells = λ i. rw e (bits-at (bits-append (z .wideX .1) (bits-append (z .wideY .1) (bits-drop b (bits-of cells (given .single))))) i);
         }
 
     pub after-step : (x y : ℕ) (moved : List ℕ) → moved ≡ down (half + half) cells
         → x ≡ gainX (I .taps) (bit (registers I cells l .X)) (bit (registers I cells l .Y)) (bit (registers I cells l .L))
         → y ≡ gainY (I .taps) (bit (registers I cells l .X)) (bit (registers I cells l .Y)) (bit (registers I cells l .L))
         → wordBits 10 l′ ≡ stepL (registers I cells l .L)
-        → Turned I (step (I .taps) (registers I cells l)) cells (set (set moved (half - 1) x) (half + half - 1) y) l′
+        → CellsHold I (step (I .taps) (registers I cells l)) cells (set (set moved (half - 1) x) (half + half - 1) y) l′
     unfolding step gainX gainY
     after-step x y moved em ex ey el =
         let s = registers I cells l in
-        turned (step (I .taps) s) (sized-step (I .taps) (ready .regular .lawful) s sized) el
+        cells-hold (step (I .taps) s) (sized-step (I .taps) (given .regular .lawful) s sized) el
         (ap (λ (c : List ℕ). set (set c (half - 1) x) (half + half - 1) y) (em ∙ ap (down (half + half)) (sym (split I cells l)))
         ∙ down-two (s .X) (s .Y) (drop (I .b) cells) half x y positive nx ny
         ∙ ap₂ (λ (v w : ℕ). shift (s .X) v ++ (shift (s .Y) w ++ drop (I .b) cells)) ex ey)
@@ -180,20 +186,20 @@ module _ {I : Instance} {cells : List ℕ} {l half : ℕ} (ready : Ready I cells
           ap (λ (c : List ℕ). set (set c 0 0) half 0) (em ∙ ap (up (half + half)) (sym (split I cells l)))
           ∙ up-two (registers I cells l .X) (registers I cells l .Y) (drop (I .b) cells) half positive nx ny
 
-      pub after-zeros : Turned I zeroed cells (set (set moved 0 0) half 0) l′
+      pub after-zeros : CellsHold I zeroed cells (set (set moved 0 0) half 0) l′
       after-zeros =
-          let p = ready .regular .lawful .some-half in
-          turned zeroed (record { wideX = wide-zero p (sized .wideX); wideY = wide-zero p (sized .wideY); wideL = wide-wordBits 10 l′ }) refl zeroed-cells
+          let p = given .regular .lawful .some-half in
+          cells-hold zeroed (record { wideX = wide-zero p (sized .wideX); wideY = wide-zero p (sized .wideY); wideL = wide-wordBits 10 l′ }) refl zeroed-cells
 
       pub after-undo : (x0 y0 : ℕ)
           → y0 ≡ (gained (registers I cells l .Y) + g (I .taps) (bit (zeroed .Y)) + h (I .taps) (bit (zeroed .X)) (bit (zeroed .Y)) (bit (zeroed .L))) % 2
           → x0 ≡ (gained (registers I cells l .X) + y0 + f (I .taps) (bit (zeroed .X)) + h (I .taps) (bit (zeroed .X)) (bit (zeroed .Y)) (bit (zeroed .L))) % 2
           → wordBits 10 l′ ≡ undoStepL (registers I cells l .L)
-          → Turned I (undoStep (I .taps) (registers I cells l)) cells (set (set (set (set moved 0 0) half 0) half y0) 0 x0) l′
+          → CellsHold I (undoStep (I .taps) (registers I cells l)) cells (set (set (set (set moved 0 0) half 0) half y0) 0 x0) l′
       unfolding undoStep
       after-undo x0 y0 ey ex el =
           let s = registers I cells l in
-          turned (undoStep (I .taps) s) (sized-undoStep (I .taps) (ready .regular .lawful) s sized) el
+          cells-hold (undoStep (I .taps) s) (sized-undoStep (I .taps) (given .regular .lawful) s sized) el
           (ap (λ (c : List ℕ). set (set c half y0) 0 x0) zeroed-cells
           ∙ set-fronts (s .X) (s .Y) (drop (I .b) cells) half 0 0 x0 y0 positive nx
           ∙ ap₂ (λ (v w : ℕ). unshift v (s .X) ++ (unshift w (s .Y) ++ drop (I .b) cells)) (cc (ex, ey, el)) (cc (ey, el)))
@@ -201,13 +207,13 @@ module _ {I : Instance} {cells : List ℕ} {l half : ℕ} (ready : Ready I cells
 -- ---- many steps
 
 module _ (I : Instance) where
-  pub turned-start : (cells : List ℕ) (l : ℕ) → l < 1024 → length cells ≡ 256 → Cells cells → Turned I (registers I cells l) cells cells l
-  turned-start cells l small full single = record { holds = refl; rest = refl; small = small; full = full; cells = single }
+  pub hold-start : (cells : List ℕ) (l : ℕ) → l < 1024 → length cells ≡ 256 → Cells cells → CellsHold I (registers I cells l) cells cells l
+  hold-start cells l small full single = record { holds = refl; rest = refl; small = small; full = full; cells = single }
 
   -- one more step
-  pub turned-next : {s : Registers} {start cells after : List ℕ} {l l′ : ℕ} (move : Registers → Registers) → Turned I s start cells l
-      → Turned I (move (registers I cells l)) cells after l′ → Turned I (move s) start after l′
-  turned-next move a b = record {
+  pub hold-next : {s : Registers} {start cells after : List ℕ} {l l′ : ℕ} (move : Registers → Registers) → CellsHold I s start cells l
+      → CellsHold I (move (registers I cells l)) cells after l′ → CellsHold I (move s) start after l′
+  hold-next move a b = record {
     holds = b .holds ∙ ap move (a .holds);
     rest = b .rest ∙ a .rest;
     small = b .small;
@@ -215,10 +221,10 @@ module _ (I : Instance) where
     cells = b .cells;
   }
 
-  -- the cells are the registers, and the others behind
-  pub turned-cells : {s : Registers} {start after : List ℕ} {l : ℕ} → Turned I s start after l → after ≡ stored s ++ drop (I .b) start
+  -- the cells are the registers, and the others after them
+  pub hold-cells : {s : Registers} {start after : List ℕ} {l : ℕ} → CellsHold I s start after l → after ≡ stored s ++ drop (I .b) start
   unfolding stored
-  turned-cells {s} {start} {after} {l} a =
+  hold-cells {s} {start} {after} {l} a =
       sym (split I after l)
       ∙ sym (append-assoc (registers I after l .X) (registers I after l .Y) (drop (I .b) after))
       ∙ ap₂ (λ (r : Registers) (others : List ℕ). (r .X ++ r .Y) ++ others) (a .holds) (a .rest)

@@ -1,5 +1,4 @@
 -- The code's `^` and `&` on single bits are the sum and the product of bits, so that an expression in them is a polynomial modulo 2.
--- Assumes nothing.
 use mathlib.Core.Path.{_≡_, refl, ap₂, _∙_}
 use Prim.Native.Nat.{ℕ, zero, suc, _+_, _*_, _%_, _<_}
 use native.Mathlib.Omega.{arith}

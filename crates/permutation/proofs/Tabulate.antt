@@ -1,4 +1,4 @@
--- Laws of `tabulate`, for loops that store one value a turn. Assumes nothing.
+-- Laws of `tabulate`, for loops that store one value in each pass.
 use mathlib.Core.Path.{_≡_, refl, sym, ap, _∙_}
 use mathlib.Core.List.{List, [], _∷_, _++_, append-assoc, append-nil}
 use Prim.Native.Nat.{ℕ, zero, suc, _+_, _-_, _<_, _≤_}
@@ -10,9 +10,9 @@ use lib.Seq.{set-at, take-suc, drop-cons}
 use Rattle.quark.specs.Bytes.{tabulate, bit}
 use Rattle.quark.specs.Feedback.{feedback, sumAt}
 use Rattle.quark.proofs.Bytes.{length-tabulate}
-use Rattle.permutation.specs.leaf.Serial.{places}
+use Rattle.permutation.specs.leaf.Serial.{indices}
 
--- a loop that stores F 0, F 1, .. into a list from the front, one store a turn
+-- a loop that stores F 0, F 1, .. into a list from the front, one store in each pass
 pub tabulate-store : (F : ℕ → ℕ) (l : List ℕ) (k : ℕ) → k < length l
     → set (tabulate k F ++ drop k l) k (F k) ≡ tabulate (k + 1) F ++ drop (k + 1) l
 unfolding tabulate
@@ -33,12 +33,12 @@ drop-replicate zero m v p = ap (λ (k : ℕ). replicate k v) (sym (sub-zero m))
 drop-replicate (suc n) zero v p = absurd (not-suc-le-zero p)
 drop-replicate (suc n) (suc m) v p = drop-replicate n m v (le-of-suc-le-suc p) ∙ ap (λ (k : ℕ). replicate k v) (sym (suc-sub-suc m n))
 
--- f's sum over bits that were gathered is f's sum over the taps
-pub feedback-gathered : (taps : List ℕ) (X : ℕ → ℕ) → feedback places (bit (tabulate 13 (λ k. X (getD taps k 0)))) ≡ feedback taps X
-unfolding feedback places tabulate
-feedback-gathered taps X = refl
+-- f's sum over the bits at the taps is f's sum over the taps
+pub feedback-bits-at : (taps : List ℕ) (X : ℕ → ℕ) → feedback indices (bit (tabulate 13 (λ k. X (getD taps k 0)))) ≡ feedback taps X
+unfolding feedback indices tabulate
+feedback-bits-at taps X = refl
 
--- ---- the sum at some taps, one more a turn
+-- ---- the sum at some taps, one more in each pass
 
 sumAt-snoc : (X : ℕ → ℕ) (s : List ℕ) (i : ℕ) → sumAt X (s ++ (i ∷ [])) ≡ sumAt X s + X i
 unfolding sumAt

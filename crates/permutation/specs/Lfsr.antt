@@ -1,4 +1,4 @@
--- L as a number, bit 0 with weight 512. Assumes nothing.
+-- L as a number, bit 0 with weight 512.
 use mathlib.Core.List.{List}
 use Prim.Native.Nat.{ℕ, _+_, _*_}
 use Rattle.quark.specs.Bytes.{bit}

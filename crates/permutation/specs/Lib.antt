@@ -1,6 +1,5 @@
 -- What the operations of this crate answer, and the forms of its private functions.
 pub mod Lines
-pub mod Outcome
 pub mod Permute
 pub mod Lfsr
 pub mod leaf

@@ -22,7 +22,7 @@ pub fn load(buffer: &[u8], bits: &mut [u8; 256])
     }
 }
 
-// Byte j of the cells: each bit is put behind those before it, so that the first gets the weight 128.
+// Byte j of the cells: each bit goes after those before it, so that the first gets the weight 128.
 fn byte_at(bits: &[u8; 256], j: usize) -> u8
     requires { ⌜ j < 32 ⌝ }
     requires { ⌜ Cells (now bits) ⌝ }

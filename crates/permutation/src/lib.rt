@@ -1,11 +1,12 @@
 // The permutation P and its inverse on a lent buffer, at every step width, and the register L (document 01, "Steps, permutation and
 // inverse"; QUARK 3.2). Widths 1 and 8 are every instance's, 16 is S's; all give the same bits.
 ghost use mathlib.Core.Path.{_≡_};
+ghost use Rattle.refusals.specs.Outcome.{outcomeOf};
 ghost use Rattle.quark.specs.Step.{P};
 ghost use Rattle.quark.specs.Inverse.{undoP};
-ghost use Rattle.permutation.specs.Outcome.{outcomeOf};
 ghost use Rattle.permutation.specs.Permute.{permuteOutcome, overwritten};
 ghost use Rattle.permutation.specs.Lfsr.{lfsrAfter};
+use refusals::Answer;
 
 mod bytes;
 mod core;
@@ -14,18 +15,6 @@ mod register_l;
 mod serial;
 mod several;
 mod taps;
-
-// Why a call was refused: the number of the first line of document 01 that holds, and a place, which is 0 outside of a journal.
-pub struct Refusal {
-    pub number: u32,
-    pub place: usize,
-}
-
-// The answer of a call that hands back nothing but a buffer.
-pub enum Answer {
-    Accepted,
-    Refused(Refusal),
-}
 
 // Overwrites the bits of an instance's state by P of them, `width` steps together.
 // Refuses by lines 1, 4 and 5, in this order; the buffer is then untouched.
@@ -36,7 +25,7 @@ pub fn permute(instance: u32, width: u32, buffer: &mut [u8]) -> Answer
     core::overwrite(false, instance, width, buffer)
 }
 
-// Overwrites the bits of an instance's state by P's inverse of them, `width` steps undone in a turn.
+// Overwrites the bits of an instance's state by P's inverse of them, `width` steps undone together.
 // Refuses by lines 1, 4 and 5, in this order; the buffer is then untouched.
 pub fn invert(instance: u32, width: u32, buffer: &mut [u8]) -> Answer
     ensures answer { λ r. ⌜ outcomeOf r ≡ permuteOutcome instance width (now (buffer .entry)) ⌝ }

@@ -13,7 +13,7 @@ ghost use Rattle.quark.specs.Inverse.{undoStep};
 ghost use Rattle.quark.specs.Instance.{instanceOf};
 ghost use Rattle.quark.specs.Word.{wordBits};
 ghost use Rattle.permutation.specs.leaf.Core.{Cells, ran, undone};
-ghost use Rattle.permutation.specs.leaf.Serial.{registers, places, Fed, Turned};
+ghost use Rattle.permutation.specs.leaf.Serial.{registers, indices, Fed, CellsHold};
 use crate::register_l::next_l;
 use crate::register_l::run_l;
 use crate::register_l::undo_l;
@@ -26,7 +26,7 @@ use crate::taps::half_of;
 use crate::taps::product_taps;
 
 // The bits of a register at thirteen taps.
-fn gather(register: &[u8], taps: [usize; 13]) -> [u8; 13]
+fn bits_at(register: &[u8], taps: [usize; 13]) -> [u8; 13]
     requires { ⌜ ((k : ℕ) → k < 13 → getD taps k 0 < length (now register)) ⌝ }
     ensures { λ r. ⌜ r ≡ tabulate 13 (λ k. bit (now (register .entry)) (getD taps k 0)) ⌝ }
 {
@@ -43,7 +43,7 @@ fn gather(register: &[u8], taps: [usize; 13]) -> [u8; 13]
 // f's sum over thirteen bits.
 fn feedback_sum(a: [u8; 13]) -> u8
     requires { ⌜ Cells a ⌝ }
-    ensures { λ r. ⌜ r ≡ feedback places (bit a) ⌝ }
+    ensures { λ r. ⌜ r ≡ feedback indices (bit a) ⌝ }
 {
     let a1 = a[1];
     let a3 = a[3];
@@ -85,7 +85,7 @@ fn feedback_at(register: &[u8], taps: [usize; 13]) -> u8
     requires { ⌜ Cells (now register) ⌝ }
     ensures { λ r. ⌜ r ≡ feedback taps (bit (now (register .entry))) ⌝ }
 {
-    feedback_sum(gather(register, taps))
+    feedback_sum(bits_at(register, taps))
 }
 
 // The sum of a register's bits at some taps.
@@ -192,7 +192,7 @@ fn step(bits: &mut [u8; 256], instance: u32, l: u32) -> u32
     requires { ⌜ l < 1024 ⌝ }
     requires { ⌜ length (now bits) ≡ 256 ⌝ }
     requires { ⌜ Cells (now bits) ⌝ }
-    ensures { λ r. ⌜ Turned (instanceOf instance) (step (instanceOf instance .taps) (registers (instanceOf instance) (now (bits .entry)) l))
+    ensures { λ r. ⌜ CellsHold (instanceOf instance) (step (instanceOf instance .taps) (registers (instanceOf instance) (now (bits .entry)) l))
         (now (bits .entry)) (now (bits .exit)) r ⌝ }
 {
     let half = half_of(instance);
@@ -211,7 +211,7 @@ fn undo_step(bits: &mut [u8; 256], instance: u32, l: u32) -> u32
     requires { ⌜ l < 1024 ⌝ }
     requires { ⌜ length (now bits) ≡ 256 ⌝ }
     requires { ⌜ Cells (now bits) ⌝ }
-    ensures { λ r. ⌜ Turned (instanceOf instance) (undoStep (instanceOf instance .taps) (registers (instanceOf instance) (now (bits .entry)) l))
+    ensures { λ r. ⌜ CellsHold (instanceOf instance) (undoStep (instanceOf instance .taps) (registers (instanceOf instance) (now (bits .entry)) l))
         (now (bits .entry)) (now (bits .exit)) r ⌝ }
 {
     let half = half_of(instance);

@@ -6,14 +6,12 @@ ghost use Prim.Native.Nat.{_+_, _%_, _^_, _≤_, _<_};
 ghost use lib.ListN.{length, take, drop};
 ghost use Rattle.quark.specs.Instance.{instanceOf};
 ghost use Rattle.quark.specs.Word.{wordBits};
-ghost use Rattle.words.specs.Words.{value};
-ghost use Rattle.words.specs.leaf.Turns.{Turns};
-ghost use Rattle.permutation.specs.Lines.{isInstance};
-ghost use Rattle.permutation.specs.leaf.Core.{Cells, ran, undone};
-ghost use Rattle.permutation.specs.leaf.Several.{written};
+ghost use Rattle.words.specs.Words.{value, fits};
+ghost use Rattle.permutation.specs.leaf.Core.{Cells, Steppable, ranOrUndone};
+ghost use Rattle.permutation.specs.leaf.Several.{SteppedOrUndone, written};
 use crate::taps::half_of;
 use words::Register;
-use words::State;
+use words::RegisterWords;
 
 // A cell as a word.
 fn wide(cell: u8) -> u64
@@ -29,8 +27,8 @@ fn lowest(word: u64) -> u8
     (word % 2) as u8
 }
 
-// The n bits from a place on as a number, lowest first.
-fn gather(bits: &[u8; 256], from: usize, n: usize) -> u64
+// The n cells from `from` on as a number, lowest bit first.
+fn read_word(bits: &[u8; 256], from: usize, n: usize) -> u64
     requires { ⌜ (from + n ≤ 256) × (n ≤ 64) × (length (now bits) ≡ 256) × Cells (now bits) ⌝ }
     ensures { λ r. ⌜ (r < 2 ^ n) × (wordBits n r ≡ take n (drop from (now (bits .entry)))) ⌝ }
 {
@@ -43,8 +41,8 @@ fn gather(bits: &[u8; 256], from: usize, n: usize) -> u64
     word
 }
 
-// Writes n bits of a number from a place on, lowest first.
-fn scatter(word: u64, n: usize, bits: &mut [u8; 256], from: usize)
+// Writes n bits of a number into the cells from `from` on, lowest first.
+fn write_word(word: u64, n: usize, bits: &mut [u8; 256], from: usize)
     requires { ⌜ (from + n ≤ 256) × (n ≤ 64) × (length (now bits) ≡ 256) ⌝ }
     ensures { λ _. ⌜ now (bits .exit) ≡ written (now (bits .entry)) from n word ⌝ }
 {
@@ -57,62 +55,66 @@ fn scatter(word: u64, n: usize, bits: &mut [u8; 256], from: usize)
     }
 }
 
-// The register whose bits stand from a place on.
+// The register in the cells from `from` on.
 fn load(bits: &[u8; 256], from: usize, half: usize) -> Register
     requires { ⌜ (from + half ≤ 256) × (64 ≤ half) × (half ≤ 128) × (length (now bits) ≡ 256) × Cells (now bits) ⌝ }
     ensures { λ r. ⌜ (value r < 2 ^ half) × (wordBits half (value r) ≡ take half (drop from (now (bits .entry)))) ⌝ }
 {
     Register {
-        hi: gather(bits, from + 64, half - 64),
-        lo: gather(bits, from, 64),
+        hi: read_word(bits, from + 64, half - 64),
+        lo: read_word(bits, from, 64),
     }
 }
 
-// Writes the bits of a register from a place on.
+// Writes the bits of a register into the cells from `from` on.
 fn save(r: Register, bits: &mut [u8; 256], from: usize, half: usize)
     requires { ⌜ (from + half ≤ 256) × (64 ≤ half) × (half ≤ 128) × (length (now bits) ≡ 256) ⌝ }
     ensures { λ _. ⌜ now (bits .exit) ≡ written (now (bits .entry)) from half (value r) ⌝ }
 {
-    scatter(r.lo, 64, bits, from);
-    scatter(r.hi, half - 64, bits, from + 64);
+    write_word(r.lo, 64, bits, from);
+    write_word(r.hi, half - 64, bits, from + 64);
 }
 
-// `count` steps, `width` at a time, from L's value l.
-pub fn run(bits: &mut [u8; 256], instance: u32, width: u32, l: u32, count: u32)
-    requires { ⌜ Turns instance width × (l < 1024) × (count % width ≡ 0) × (length (now bits) ≡ 256) × Cells (now bits) × (isInstance instance ≡ true) ⌝ }
-    ensures { λ _. ⌜ now (bits .exit) ≡ ran (instanceOf instance) l count (now (bits .entry)) ⌝ }
+// The words `count` steps on, or `count` steps before, `width` at a time. For the steps undone state.l is what L was before them.
+fn run_or_undo_words(
+    inverse: bool,
+    instance: u32,
+    width: u32,
+    count: u32,
+    state: RegisterWords,
+) -> RegisterWords
+    ensures { λ r. ⌜ (fits instance width count state ≡ true → SteppedOrUndone inverse (instanceOf instance .taps) count (state .x) (state .y) (state .l) r) ⌝ }
+{
+    if inverse {
+        return words::undo(instance, width, count, state);
+    }
+    words::run(instance, width, count, state)
+}
+
+// `count` steps on the cells, or `count` steps undone, `width` at a time. L begins at l before the first of them.
+pub fn run_or_undo(
+    inverse: bool,
+    bits: &mut [u8; 256],
+    instance: u32,
+    width: u32,
+    l: u32,
+    count: u32,
+)
+    requires { ⌜ Steppable instance width l count (now bits) ⌝ }
+    requires { ⌜ (width ≡ 1 → ⊥) ⌝ }
+    ensures { λ _. ⌜ now (bits .exit) ≡ ranOrUndone inverse (instanceOf instance) l count (now (bits .entry)) ⌝ }
 {
     let half = half_of(instance);
     let x = load(bits, 0, half);
     let y = load(bits, half, half);
-    let state = State {
+    let state = RegisterWords {
         x: x,
         y: y,
         l: l as u64,
     };
-    let after = words::run(instance, width, count, state);
+    let after = run_or_undo_words(inverse, instance, width, count, state);
     let x2 = after.x;
     let y2 = after.y;
-    save(x2, bits, 0, half);
-    save(y2, bits, half, half);
-}
-
-// `count` steps undone, `width` in a turn; l is L's value before them.
-pub fn undo(bits: &mut [u8; 256], instance: u32, width: u32, l: u32, count: u32)
-    requires { ⌜ Turns instance width × (l < 1024) × (count % width ≡ 0) × (length (now bits) ≡ 256) × Cells (now bits) × (isInstance instance ≡ true) ⌝ }
-    ensures { λ _. ⌜ now (bits .exit) ≡ undone (instanceOf instance) l count (now (bits .entry)) ⌝ }
-{
-    let half = half_of(instance);
-    let x = load(bits, 0, half);
-    let y = load(bits, half, half);
-    let state = State {
-        x: x,
-        y: y,
-        l: l as u64,
-    };
-    let before = words::undo(instance, width, count, state);
-    let x2 = before.x;
-    let y2 = before.y;
     save(x2, bits, 0, half);
     save(y2, bits, half, half);
 }

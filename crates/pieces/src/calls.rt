@@ -1,6 +1,7 @@
 // Calls on a state, one after the other, each with the state that the one before it handed back.
 ghost use Prim.Native.Nat.{_<_, _≤_};
-use permutation::Answer;
+use refusals::Answer;
+use refusals::number_of;
 use sponge::Reply;
 use sponge::State;
 
@@ -9,14 +10,6 @@ pub struct Calls {
     pub answers: u64,
     pub state: State,
     pub space: [u8; 32],
-}
-
-// The number of an answer: 0 where the call was accepted.
-pub fn number_of(answer: Answer) -> u32 {
-    match answer {
-        Answer::Accepted => 0,
-        Answer::Refused(refusal) => refusal.number,
-    }
 }
 
 // The digit of an answer. No call here is refused by a line above 9.

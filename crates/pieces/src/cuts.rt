@@ -1,4 +1,4 @@
-// A message cut in two at every place, and the same message bit by bit. However it is cut, its closed state and its digest are the same.
+// A message cut in two at every bit, and the same message bit by bit. However it is cut, its closed state and its digest are the same.
 ghost use Prim.Native.Nat.{_≤_};
 use crate::calls;
 use crate::calls::Calls;
@@ -11,6 +11,7 @@ use crate::text::write_number;
 use crate::text::write_state;
 use crate::widths::digest_bytes;
 use crate::widths::width_at;
+use refusals::number_of;
 
 // The message in two pieces, with a piece of no bits between them and refused calls among them: an instance that is none (1), a wrong
 // width (4), more bits than there are (6), a short buffer (5), and a piece and a finish once the message is closed (3, 3).
@@ -46,14 +47,13 @@ fn bit_by_bit(instance: u32, message: &[u8; 9], bits: usize) -> Calls
     let mut i: usize = 0;
     while i < bits {
         let piece = part(message, i, 1);
-        let next = calls::absorb(calls, width_at(instance, i), &piece, 1);
-        calls = next;
+        calls = calls::absorb(calls, width_at(instance, i), &piece, 1);
         i += 1;
     }
     calls::finish(calls, 8, digest_bytes(instance))
 }
 
-// Whether the message that is cut at a place has the answers, the closed state and the digest of `first`.
+// Whether the message that is cut at a bit has the answers, the closed state and the digest of `first`.
 fn cut_agrees(instance: u32, message: &[u8; 9], bits: usize, cut: usize, first: Calls) -> bool
     requires { ⌜ cut ≤ bits ⌝ }
     requires { ⌜ bits ≤ 72 ⌝ }
@@ -114,7 +114,7 @@ fn write_whole(instance: u32, message: &[u8; 9], bits: usize) {
     let length = digest_bytes(instance);
     let answer = sponge::digest(instance, 8, message, bits, &mut space[0..length]);
     write(b"whole digest: ");
-    write_number(calls::number_of(answer) as u64);
+    write_number(number_of(answer) as u64);
     write(b", ");
     write_first(&space, length);
 }

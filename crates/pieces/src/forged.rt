@@ -3,9 +3,12 @@ ghost use Prim.Native.Nat.{_<_};
 use crate::calls;
 use crate::calls::Calls;
 use crate::compare::same_outcome;
+use crate::states::bytes_of;
+use crate::states::forged;
 use crate::text::write;
 use crate::text::write_number;
 use crate::widths::digest_bytes;
+use crate::widths::widest;
 use sponge::State;
 
 // Writes the answer of a call, and whether state and buffer are as handed in.
@@ -29,121 +32,42 @@ fn write_row(name: &[u8], state: State, width: u32, count: usize, length: usize)
     write(b"\n");
 }
 
-// States whose bits are sound: 17, 22 and 32 bytes, and zeros behind.
-pub fn u_bits() -> [u8; 32] {
-    *b"A U-QUARK state..\0\0\0\0\0\0\0\0\0\0\0\0\0\0\0"
-}
-
-pub fn d_bits() -> [u8; 32] {
-    *b"A state for D-QUARK...\0\0\0\0\0\0\0\0\0\0"
-}
-
-pub fn s_bits() -> [u8; 32] {
-    *b"A state of thirty-two bytes of S"
-}
-
-// A state of U with a phase, a total and runs: one byte is taken, and 17 bytes are lent to finish.
-fn write_u(name: &[u8], phase: u32, total: u32, runs: u32) {
-    let bits = u_bits();
+// A state with a phase, a total and runs, at the instance's greatest width: one byte is taken, and the digest's bytes are lent to finish.
+fn write_fields(name: &[u8], instance: u32, phase: u32, total: u32, runs: u32) {
     write_row(
         name,
-        State {
-            instance: 1,
-            phase,
-            total,
-            runs,
-            bits,
-        },
+        forged(instance, phase, total, runs, bytes_of(instance)),
+        widest(instance),
         8,
-        8,
-        17,
-    );
-}
-
-// The same of D and of S, with their own lengths.
-fn write_d(name: &[u8], phase: u32, total: u32, runs: u32) {
-    let bits = d_bits();
-    write_row(
-        name,
-        State {
-            instance: 2,
-            phase,
-            total,
-            runs,
-            bits,
-        },
-        8,
-        8,
-        22,
-    );
-}
-
-fn write_s(name: &[u8], phase: u32, total: u32, runs: u32) {
-    let bits = s_bits();
-    write_row(
-        name,
-        State {
-            instance: 3,
-            phase,
-            total,
-            runs,
-            bits,
-        },
-        16,
-        8,
-        32,
+        digest_bytes(instance),
     );
 }
 
 // Sound states, absorbing and closed.
 pub fn write_sound() {
-    write_u(b"U, absorbing", 0, 20, 2);
-    write_d(b"D, absorbing", 0, 100, 6);
-    write_s(b"S, absorbing", 0, 100, 3);
-    write_u(b"U, closed", 1, 20, 19);
-    write_d(b"D, closed", 1, 100, 17);
-    write_s(b"S, closed", 1, 100, 11);
+    write_fields(b"U, absorbing", 1, 0, 20, 2);
+    write_fields(b"D, absorbing", 2, 0, 100, 6);
+    write_fields(b"S, absorbing", 3, 0, 100, 3);
+    write_fields(b"U, closed", 1, 1, 20, 19);
+    write_fields(b"D, closed", 2, 1, 100, 17);
+    write_fields(b"S, closed", 3, 1, 100, 11);
 }
 
 // A state with U's bits and any instance and phase.
 fn write_instance(name: &[u8], instance: u32, phase: u32, width: u32) {
-    let bits = u_bits();
     write_row(
         name,
-        State {
-            instance,
-            phase,
-            total: 20,
-            runs: 2,
-            bits,
-        },
+        forged(instance, phase, 20, 2, bytes_of(1)),
         width,
         8,
         17,
     );
 }
 
-// What `init` hands back where it refuses.
-fn write_zeros() {
-    let bits: [u8; 32] = [0; 32];
-    write_row(
-        b"all zeros",
-        State {
-            instance: 0,
-            phase: 0,
-            total: 0,
-            runs: 0,
-            bits,
-        },
-        8,
-        8,
-        17,
-    );
-}
-
-// Line 1: an instance that is none.
+// Line 1: an instance that is none. The first state is what `init` hands back where it refuses.
 pub fn write_instances() {
-    write_zeros();
+    let zeros: [u8; 32] = [0; 32];
+    write_row(b"all zeros", forged(0, 0, 0, 0, zeros), 8, 8, 17);
     write_instance(b"instance 0", 0, 0, 8);
     write_instance(b"instance 4", 4, 0, 8);
     write_instance(b"instance 257", 257, 0, 8);
@@ -152,24 +76,24 @@ pub fn write_instances() {
 
 // Line 2: phases that are neither 0 nor 1, and totals past the limit.
 pub fn write_phases_and_totals() {
-    write_u(b"U, phase 2", 2, 20, 2);
-    write_u(b"U, phase 2, runs of a closed state", 2, 20, 19);
-    write_u(b"U, phase 256", 256, 20, 2);
-    write_u(b"U, total 16777216", 0, 16777216, 2097152);
-    write_u(b"U, closed, total 16777216", 1, 16777216, 2097169);
-    write_u(b"U, total 4294967295", 0, 4294967295, 536870911);
+    write_fields(b"U, phase 2", 1, 2, 20, 2);
+    write_fields(b"U, phase 2, runs of a closed state", 1, 2, 20, 19);
+    write_fields(b"U, phase 256", 1, 256, 20, 2);
+    write_fields(b"U, total 16777216", 1, 0, 16777216, 2097152);
+    write_fields(b"U, closed, total 16777216", 1, 1, 16777216, 2097169);
+    write_fields(b"U, total 4294967295", 1, 0, 4294967295, 536870911);
 }
 
 // Line 2: runs that are not those of the total.
 pub fn write_runs() {
-    write_u(b"U, a run too few", 0, 20, 1);
-    write_u(b"U, a run too many", 0, 20, 3);
-    write_u(b"U, runs of a closed state", 0, 20, 19);
-    write_u(b"U, closed, a run too few", 1, 20, 18);
-    write_u(b"U, closed, a run too many", 1, 20, 20);
-    write_u(b"U, closed, runs of an absorbing state", 1, 20, 2);
-    write_d(b"D, runs of U", 0, 100, 12);
-    write_s(b"S, runs of D", 0, 100, 6);
+    write_fields(b"U, a run too few", 1, 0, 20, 1);
+    write_fields(b"U, a run too many", 1, 0, 20, 3);
+    write_fields(b"U, runs of a closed state", 1, 0, 20, 19);
+    write_fields(b"U, closed, a run too few", 1, 1, 20, 18);
+    write_fields(b"U, closed, a run too many", 1, 1, 20, 20);
+    write_fields(b"U, closed, runs of an absorbing state", 1, 1, 20, 2);
+    write_fields(b"D, runs of U", 2, 0, 100, 12);
+    write_fields(b"S, runs of D", 3, 0, 100, 6);
 }
 
 // A state whose bytes are all 0 but one.
@@ -180,21 +104,15 @@ fn write_byte(name: &[u8], instance: u32, at: usize)
     bits[at] = 128;
     write_row(
         name,
-        State {
-            instance,
-            phase: 0,
-            total: 0,
-            runs: 0,
-            bits,
-        },
+        forged(instance, 0, 0, 0, bits),
         8,
         8,
         digest_bytes(instance),
     );
 }
 
-// Line 2: a byte behind the state's own that is not zero.
-pub fn write_bytes_behind() {
+// Line 2: a byte after the state's own that is not zero.
+pub fn write_bytes_after() {
     write_byte(b"U, byte 16 not zero", 1, 16);
     write_byte(b"U, byte 17 not zero", 1, 17);
     write_byte(b"U, byte 31 not zero", 1, 31);
@@ -205,16 +123,9 @@ pub fn write_bytes_behind() {
 
 // A sound state of U, absorbing or closed, and other arguments.
 fn write_call(name: &[u8], phase: u32, width: u32, count: usize, length: usize) {
-    let bits = u_bits();
     write_row(
         name,
-        State {
-            instance: 1,
-            phase,
-            total: 0,
-            runs: 17 * (phase % 2),
-            bits,
-        },
+        forged(1, phase, 0, 17 * (phase % 2), bytes_of(1)),
         width,
         count,
         length,
@@ -239,16 +150,9 @@ pub fn write_arguments() {
 
 // A sound state of U with 7 bits to the limit.
 fn write_near(name: &[u8], width: u32, count: usize) {
-    let bits = u_bits();
     write_row(
         name,
-        State {
-            instance: 1,
-            phase: 0,
-            total: 16777208,
-            runs: 2097151,
-            bits,
-        },
+        forged(1, 0, 16777208, 2097151, bytes_of(1)),
         width,
         count,
         17,

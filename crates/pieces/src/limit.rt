@@ -2,12 +2,13 @@
 use crate::calls;
 use crate::calls::Calls;
 use crate::compare::same_outcome;
+use crate::states::bytes_of;
+use crate::states::forged;
 use crate::text::write;
 use crate::text::write_digest;
 use crate::text::write_number;
 use crate::text::write_state;
 use crate::widths::digest_bytes;
-use sponge::State;
 
 // Writes the answer of the last call, and the state that it handed back, or that nothing changed.
 fn write_answer(before: Calls, after: Calls) {
@@ -39,10 +40,12 @@ fn finish(calls: Calls, length: usize) {
     write_digest(after);
 }
 
-// 61 bits are one too many, 60 are taken, then one more is too many, none is taken, and the state finishes.
-pub fn write_limit(heading: &[u8], state: State) {
+// The state of an instance with its runs: 61 bits are one too many, 60 are taken, then one more is too many, none is taken, and the state
+// finishes.
+pub fn write_limit(heading: &[u8], instance: u32, runs: u32) {
     let bytes = *b"the limit";
-    let length = digest_bytes(state.instance);
+    let length = digest_bytes(instance);
+    let state = forged(instance, 0, 16777155, runs, bytes_of(instance));
     write(heading);
     write_state(state);
     let short = calls::on(state);

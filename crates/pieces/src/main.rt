@@ -6,10 +6,11 @@ mod cuts;
 mod forged;
 mod limit;
 mod message;
+mod states;
 mod text;
 mod widths;
 
-use sponge::State;
+use refusals::number_of;
 
 // `init`: its number, and the state.
 fn write_init(instance: u32) {
@@ -19,7 +20,7 @@ fn write_init(instance: u32) {
     text::write(b"init ");
     text::write_number(instance as u64);
     text::write(b": ");
-    text::write_number(calls::number_of(answer) as u64);
+    text::write_number(number_of(answer) as u64);
     text::write(b", ");
     text::write_state(state);
 }
@@ -45,39 +46,9 @@ fn write_messages() {
 }
 
 fn write_limits() {
-    let u = forged::u_bits();
-    let d = forged::d_bits();
-    let s = forged::s_bits();
-    limit::write_limit(
-        b"U-QUARK, 60 bits to the limit\n",
-        State {
-            instance: 1,
-            phase: 0,
-            total: 16777155,
-            runs: 2097144,
-            bits: u,
-        },
-    );
-    limit::write_limit(
-        b"D-QUARK, 60 bits to the limit\n",
-        State {
-            instance: 2,
-            phase: 0,
-            total: 16777155,
-            runs: 1048572,
-            bits: d,
-        },
-    );
-    limit::write_limit(
-        b"S-QUARK, 60 bits to the limit\n",
-        State {
-            instance: 3,
-            phase: 0,
-            total: 16777155,
-            runs: 524286,
-            bits: s,
-        },
-    );
+    limit::write_limit(b"U-QUARK, 60 bits to the limit\n", 1, 2097144);
+    limit::write_limit(b"D-QUARK, 60 bits to the limit\n", 2, 1048572);
+    limit::write_limit(b"S-QUARK, 60 bits to the limit\n", 3, 524286);
 }
 
 fn write_forged_states() {
@@ -85,7 +56,7 @@ fn write_forged_states() {
     forged::write_instances();
     forged::write_phases_and_totals();
     forged::write_runs();
-    forged::write_bytes_behind();
+    forged::write_bytes_after();
     forged::write_arguments();
     forged::write_totals();
 }

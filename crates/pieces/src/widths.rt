@@ -1,16 +1,23 @@
 // Step widths and lengths of the instances.
 ghost use Prim.Native.Nat.{_≤_};
 
-// A width of the instance, another one from turn to turn.
-pub fn width_at(instance: u32, turn: usize) -> u32 {
-    let place = turn % 3;
-    if place == 0 {
+// The greatest width of the instance.
+pub fn widest(instance: u32) -> u32 {
+    if instance == 3 {
+        return 16;
+    }
+    8
+}
+
+// A width of the instance for call i, another one for the next.
+pub fn width_at(instance: u32, i: usize) -> u32 {
+    if i % 3 == 0 {
         return 1;
     }
-    if place == 1 || instance != 3 {
+    if i % 3 == 1 {
         return 8;
     }
-    16
+    widest(instance)
 }
 
 // The bytes of a digest.

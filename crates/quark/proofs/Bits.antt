@@ -1,9 +1,10 @@
--- Lists of bits: that every element is 0 or 1. Assumes nothing.
+-- Lists of bits: that every element is 0 or 1.
 use mathlib.Core.List.{List, [], _∷_, _++_}
-use mathlib.Core.Path.{_≡_}
+use mathlib.Core.Path.{_≡_, sym, _∙_}
 use Prim.Native.Nat.{ℕ, zero, suc, _%_, _<_}
 use native.Mathlib.Omega.{arith}
 use lib.ListN.{length, take, drop, replicate}
+use lib.Seq.{take-suc, take-all}
 use Rattle.quark.specs.Bytes.{bit, tabulate}
 
 pub data Bits : List ℕ → Type 0 where
@@ -39,6 +40,10 @@ bits-at (more v p) (suc i) = bits-at p i
 pub bits-of : (s : List ℕ) → ((i : ℕ) → bit s i < 2) → Bits s
 bits-of [] h = none
 bits-of (v ∷ s) h = more (h 0) (bits-of s (λ i. h (suc i)))
+
+-- a list is its elements but the last, and the last
+pub split-last : (n : ℕ) (s : List ℕ) → length s ≡ suc n → take n s ++ (bit s n ∷ []) ≡ s
+split-last n s e = sym (take-suc s n 0 (omega arith)) ∙ take-all (suc n) s (omega arith)
 
 pub bits-replicate : (n : ℕ) {v : ℕ} → v < 2 → Bits (replicate n v)
 bits-replicate zero p = none

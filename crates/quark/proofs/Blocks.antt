@@ -1,4 +1,4 @@
--- Blocks of a list of bits, the state just before each, and that states are b bits. Assumes nothing.
+-- Blocks of a list of bits, the state just before each, and that states are b bits.
 use mathlib.Core.List.{List, [], _++_}
 use mathlib.Core.Path.{_≡_, refl, sym, ap, ap₂, _∙_}
 use Prim.Native.Nat.{ℕ, zero, suc, _+_, _*_, _-_, _/_, _%_, _≤_, _<_}
@@ -11,7 +11,7 @@ use Rattle.quark.specs.Instance.{Instance}
 use Rattle.quark.specs.Sponge.{Counted, runP, addLast, absorb, block, before, absorbing, absorbed, squeezed, closed, pad, blockCount}
 use Rattle.quark.proofs.Bits.{Bits, Wide, bits-take, bits-drop}
 use Rattle.quark.proofs.Instance.{Regular, P-wide}
-use Rattle.quark.proofs.Sums.{addFrom, length-addFrom, bits-addFrom}
+use Rattle.quark.proofs.Sums.{length-addFrom, bits-addFrom}
 
 module _ (I : Instance) where
   -- ---- blocks
@@ -48,10 +48,10 @@ module _ (I : Instance) where
   unfolding block
   blocks-all pos x y N hx hy h =
       ext-getD 0 x y (hx ∙ sym hy)
-      (λ i g. sym (place x i) ∙ ap (λ (l : List ℕ). getD l (i % I .r) 0) (h (i / I .r) (div-lt-iff-lt-mul pos .1 (rw hx at g))) ∙ place y i)
+      (λ i g. sym (in-block x i) ∙ ap (λ (l : List ℕ). getD l (i % I .r) 0) (h (i / I .r) (div-lt-iff-lt-mul pos .1 (rw hx at g))) ∙ in-block y i)
     where
-      place : (l : List ℕ) (i : ℕ) → getD (block I l (i / I .r)) (i % I .r) 0 ≡ getD l i 0
-      place l i =
+      in-block : (l : List ℕ) (i : ℕ) → getD (block I l (i / I .r)) (i % I .r) 0 ≡ getD l i 0
+      in-block l i =
           getD-take (I .r) (drop (i / I .r * I .r) l) (i % I .r) 0 (mod-lt i pos)
           ∙ getD-drop (i / I .r * I .r) l (i % I .r) 0
           ∙ ap (λ (k : ℕ). getD l k 0) (div-add-mod' i (I .r))
@@ -59,8 +59,8 @@ module _ (I : Instance) where
   -- ---- the state just before a block
 
   -- through one block and its P
-  pub before-suc : (l : List ℕ) (k : ℕ) → before I l (suc k) .bits ≡ P (I .taps) (addFrom (I .b - I .r) (before I l k .bits) (block I l k))
-  unfolding before runP absorb addLast
+  pub before-suc : (l : List ℕ) (k : ℕ) → before I l (suc k) .bits ≡ P (I .taps) (addLast I (before I l k .bits) (block I l k))
+  unfolding before runP absorb
   before-suc l k = refl
 
   -- it depends on the blocks before it alone
@@ -76,15 +76,16 @@ module _ (I : Instance) where
   -- ---- states are b bits
 
   module _ (R : Regular I) where
-    pub wide-add : (s ys : List ℕ) → Wide (I .b) s → Wide (I .b) (addFrom (I .b - I .r) s ys)
+    pub wide-add : (s ys : List ℕ) → Wide (I .b) s → Wide (I .b) (addLast I s ys)
+    unfolding addLast
     wide-add s ys w = (length-addFrom (I .b - I .r) s ys ∙ w .0, bits-addFrom (I .b - I .r) ys (w .1))
 
     pub wide-before : (l : List ℕ) (k : ℕ) → Wide (I .b) (before I l k .bits)
-    unfolding before runP absorb addLast
+    unfolding before runP absorb
     wide-before l zero = R .wide-initial
     wide-before l (suc k) =
         let s = before I l k .bits in
-        P-wide I R (addFrom (I .b - I .r) s (block I l k)) (wide-add s (block I l k) (wide-before l k))
+        P-wide I R (addLast I s (block I l k)) (wide-add s (block I l k) (wide-before l k))
 
     pub wide-squeezed : (k : ℕ) (s : Counted) → Wide (I .b) (s .bits) → Wide (I .b) (squeezed I k s .bits)
     unfolding squeezed runP
@@ -92,7 +93,7 @@ module _ (I : Instance) where
     wide-squeezed (suc k) s w = P-wide I R (squeezed I k s .bits) (wide-squeezed k s w)
 
     pub wide-absorbing : (m : List ℕ) → Wide (I .b) (absorbing I m .bits)
-    unfolding absorbing absorb addLast
+    unfolding absorbing absorb
     wide-absorbing m = wide-add (before I m (length m / I .r) .bits) (block I m (length m / I .r)) (wide-before m (length m / I .r))
 
     pub wide-closed : (m : List ℕ) → Wide (I .b) (closed I m .bits)

@@ -1,14 +1,16 @@
--- The byte form, there and back: bits of bytes of bits, and bytes of bits of bytes. Assumes nothing.
-use mathlib.Core.List.{List, [], _∷_, _++_}
+-- The byte form, there and back: bits of bytes of bits, and bytes of bits of bytes.
+use mathlib.Core.List.{List, [], _∷_, _++_, append-nil, append-assoc}
 use mathlib.Core.Path.{_≡_, refl, sym, ap, ap₂, _∙_, subst}
 use Prim.Native.Nat.{ℕ, zero, suc, _+_, _*_, _-_, _/_, _%_, _^_, _<_, _≤_}
-use native.Mathlib.Nat.{add-zero, not-suc-le-zero, div-add-mod', div-div-eq-div-mul, div-one, pow-suc}
+use native.Mathlib.Nat.{add-zero, add-suc, not-suc-le-zero}
 use native.Mathlib.Decide.{decLt}
 use native.Mathlib.Omega.{arith}
 use lib.ListN.{length, getD, length-append, List·getD-append, List·getD-eq-default}
-use lib.Seq.{ext-getD, getD-at}
+use lib.Seq.{ext-getD, getD-at, getD-append-add}
 use Rattle.quark.specs.Bytes.{bit, tabulate, bitAt, bitsOf, byteAt, bytesOf}
+use Rattle.quark.specs.Word.{wordBit}
 use Rattle.quark.proofs.Bits.{Bits, Wide, parity-lt, bits-at, bits-tabulate}
+use Rattle.quark.proofs.Weights.{weighed, weighed-cong, weighed-bit, weighed-bits}
 
 -- ---- tabulated lists
 
@@ -38,7 +40,7 @@ tabulate-cong (suc n) F G e =
 
 pub wide-bitsOf : (n : ℕ) (bytes : List ℕ) → Wide n (bitsOf n bytes)
 unfolding bitsOf bitAt
-wide-bitsOf n bytes = (length-tabulate n (bitAt bytes), bits-tabulate n (bitAt bytes) (λ i. parity-lt (getD bytes (i / 8) 0 / 2 ^ (7 - i % 8))))
+wide-bitsOf n bytes = (length-tabulate n (bitAt bytes), bits-tabulate n (bitAt bytes) (λ i. parity-lt _))
 
 pub getD-bitsOf : (n : ℕ) (bytes : List ℕ) (i : ℕ) → i < n → bit (bitsOf n bytes) i ≡ bitAt bytes i
 unfolding bitsOf
@@ -54,25 +56,21 @@ length-bytesOf n s = length-tabulate n (byteAt s)
 
 -- ---- from bits to bytes and back
 
--- the eight bits of a byte, as they stand in it
-eight : (a : ℕ → ℕ) → ((k : ℕ) → a k < 2) → (k : ℕ) → k < 8
-    → (a 0 * 128 + a 1 * 64 + a 2 * 32 + a 3 * 16 + a 4 * 8 + a 5 * 4 + a 6 * 2 + a 7 * 1) / 2 ^ (7 - k) % 2 ≡ a k
-eight a b zero h = omega (arith, b 0, b 1, b 2, b 3, b 4, b 5, b 6, b 7)
-eight a b (suc zero) h = omega (arith, b 0, b 1, b 2, b 3, b 4, b 5, b 6, b 7)
-eight a b (suc (suc zero)) h = omega (arith, b 0, b 1, b 2, b 3, b 4, b 5, b 6, b 7)
-eight a b (suc (suc (suc zero))) h = omega (arith, b 0, b 1, b 2, b 3, b 4, b 5, b 6, b 7)
-eight a b (suc (suc (suc (suc zero)))) h = omega (arith, b 0, b 1, b 2, b 3, b 4, b 5, b 6, b 7)
-eight a b (suc (suc (suc (suc (suc zero))))) h = omega (arith, b 0, b 1, b 2, b 3, b 4, b 5, b 6, b 7)
-eight a b (suc (suc (suc (suc (suc (suc zero)))))) h = omega (arith, b 0, b 1, b 2, b 3, b 4, b 5, b 6, b 7)
-eight a b (suc (suc (suc (suc (suc (suc (suc zero))))))) h = omega (arith, b 0, b 1, b 2, b 3, b 4, b 5, b 6, b 7)
-eight a b (suc (suc (suc (suc (suc (suc (suc (suc k)))))))) h = absurd (omega arith)
+-- a byte is the number of its eight bits
+pub byte-weighed : (s : List ℕ) (j : ℕ) → byteAt s j ≡ weighed (λ k. bit s (8 * j + k)) 8
+unfolding byteAt weighed
+byte-weighed s j = omega (arith, ap (bit s) (add-zero (8 * j)))
 
 byte-bit : (s : List ℕ) → Bits s → (j k : ℕ) → k < 8 → byteAt s j / 2 ^ (7 - k) % 2 ≡ bit s (8 * j + k)
-unfolding byteAt
+unfolding wordBit
 byte-bit s b j k h =
-    ap (λ (i : ℕ). (bit s i * 128 + bit s (8 * j + 1) * 64 + bit s (8 * j + 2) * 32 + bit s (8 * j + 3) * 16 + bit s (8 * j + 4) * 8
-    + bit s (8 * j + 5) * 4 + bit s (8 * j + 6) * 2 + bit s (8 * j + 7) * 1) / 2 ^ (7 - k) % 2) (sym (add-zero (8 * j)))
-    ∙ eight (λ i. bit s (8 * j + i)) (λ i. bits-at b (8 * j + i)) k h
+    let a : ℕ → ℕ = λ i. bit s (8 * j + i) in
+    let eight : 8 ≡ suc k + (7 - k) = omega arith in
+    ap (λ (x : ℕ). x / 2 ^ (7 - k) % 2) (byte-weighed s j ∙ ap (weighed a) eight) ∙ weighed-bit a (λ i. bits-at b (8 * j + i)) k (7 - k)
+
+-- bytes of the same bits
+byte-cong : (s t : List ℕ) (i j : ℕ) → ((k : ℕ) → k < 8 → bit s (8 * i + k) ≡ bit t (8 * j + k)) → byteAt s i ≡ byteAt t j
+byte-cong s t i j e = byte-weighed s i ∙ weighed-cong 8 (λ k. bit s (8 * i + k)) (λ k. bit t (8 * j + k)) e ∙ sym (byte-weighed t j)
 
 pub bits-of-bytes : (n m : ℕ) (s : List ℕ) → n ≤ 8 * m → Wide n s → bitsOf n (bytesOf m s) ≡ s
 unfolding bitAt
@@ -90,32 +88,14 @@ bits-of-bytes n m s fits w =
 
 -- ---- from bytes to bits and back
 
--- a digit more: x, from its digits above 2 ^ k
-digit : (x k : ℕ) → x / 2 ^ k ≡ x / 2 ^ suc k * 2 + x / 2 ^ k % 2
-digit x k = sym (div-add-mod' (x / 2 ^ k) 2) ∙ ap (λ (y : ℕ). y * 2 + x / 2 ^ k % 2) (div-div-eq-div-mul x (2 ^ k) 2 ∙ ap (λ (y : ℕ). x / y) (sym (pow-suc 2 k)))
-
-summed : (x0 x1 x2 x3 x4 x5 x6 x7 d0 d1 d2 d3 d4 d5 d6 d7 : ℕ)
-    → x0 ≡ x1 * 2 + d0 → x1 ≡ x2 * 2 + d1 → x2 ≡ x3 * 2 + d2 → x3 ≡ x4 * 2 + d3 → x4 ≡ x5 * 2 + d4 → x5 ≡ x6 * 2 + d5 → x6 ≡ x7 * 2 + d6 → x7 ≡ d7
-    → d7 * 128 + d6 * 64 + d5 * 32 + d4 * 16 + d3 * 8 + d2 * 4 + d1 * 2 + d0 * 1 ≡ x0
-summed x0 x1 x2 x3 x4 x5 x6 x7 d0 d1 d2 d3 d4 d5 d6 d7 e0 e1 e2 e3 e4 e5 e6 e7 = omega arith
-
--- a byte is the sum of its bits with their weights
-spelled : (x : ℕ) → x < 256
-    → x / 128 % 2 * 128 + x / 64 % 2 * 64 + x / 32 % 2 * 32 + x / 16 % 2 * 16 + x / 8 % 2 * 8 + x / 4 % 2 * 4 + x / 2 % 2 * 2 + x / 1 % 2 * 1 ≡ x
-spelled x h =
-    let top : x / 128 ≡ x / 128 % 2 = omega arith in
-    summed (x / 1) (x / 2) (x / 4) (x / 8) (x / 16) (x / 32) (x / 64) (x / 128) (x / 1 % 2) (x / 2 % 2) (x / 4 % 2) (x / 8 % 2) (x / 16 % 2)
-    (x / 32 % 2) (x / 64 % 2) (x / 128 % 2) (digit x 0) (digit x 1) (digit x 2) (digit x 3) (digit x 4) (digit x 5) (digit x 6) top
-    ∙ div-one x
-
 pub bytes-of-bits : (n : ℕ) (bytes : List ℕ) → length bytes ≡ n → ((j : ℕ) → getD bytes j 0 < 256) → bytesOf n (bitsOf (8 * n) bytes) ≡ bytes
-unfolding bitAt byteAt
+unfolding bitAt wordBit
 bytes-of-bits n bytes e small =
     ext-getD 0 (bytesOf n (bitsOf (8 * n) bytes)) bytes (length-bytesOf n (bitsOf (8 * n) bytes) ∙ sym e)
     (λ j h. at j (subst (λ (k : ℕ). j < k) (length-bytesOf n (bitsOf (8 * n) bytes)) h))
   where
-    place : (j k : ℕ) → j < n → k < 8 → bit (bitsOf (8 * n) bytes) (8 * j + k) ≡ getD bytes j 0 / 2 ^ (7 - k) % 2
-    place j k h g =
+    in-byte : (j k : ℕ) → j < n → k < 8 → bit (bitsOf (8 * n) bytes) (8 * j + k) ≡ getD bytes j 0 / 2 ^ (7 - k) % 2
+    in-byte j k h g =
         let q : (8 * j + k) / 8 ≡ j = omega arith in
         let r : (8 * j + k) % 8 ≡ k = omega arith in
         getD-bitsOf (8 * n) bytes (8 * j + k) (omega arith) ∙ ap₂ (λ (x y : ℕ). getD bytes x 0 / 2 ^ (7 - y) % 2) q r
@@ -124,32 +104,44 @@ bytes-of-bits n bytes e small =
     at j h =
         let s = bitsOf (8 * n) bytes in
         getD-bytesOf n s j h
-        ∙ cc (
-          ap (bit s) (sym (add-zero (8 * j))) ∙ place j 0 h (omega arith),
-          place j 1 h (omega arith),
-          place j 2 h (omega arith),
-          place j 3 h (omega arith),
-          place j 4 h (omega arith),
-          place j 5 h (omega arith),
-          place j 6 h (omega arith),
-          place j 7 h (omega arith),
-        )
-        ∙ spelled (getD bytes j 0) (small j)
+        ∙ byte-weighed s j
+        ∙ weighed-cong 8 (λ k. bit s (8 * j + k)) (λ k. wordBit (getD bytes j 0) (7 - k)) (λ k g. in-byte j k h g)
+        ∙ weighed-bits (getD bytes j 0) 8 (small j)
 
 -- ---- past the end of the bits
 
 pub byte-past : (s : List ℕ) (j : ℕ) → length s ≤ 8 * j → byteAt s j ≡ 0
 unfolding byteAt
-byte-past s j h =
-    let z : (i : ℕ) → length s ≤ i → bit s i ≡ 0 = λ i g. List·getD-eq-default s 0 g in
-    omega (
-      arith,
-      z (8 * j) h,
-      z (8 * j + 1) (omega arith),
-      z (8 * j + 2) (omega arith),
-      z (8 * j + 3) (omega arith),
-      z (8 * j + 4) (omega arith),
-      z (8 * j + 5) (omega arith),
-      z (8 * j + 6) (omega arith),
-      z (8 * j + 7) (omega arith),
-    )
+byte-past s j h = byte-cong s [] j 0 (λ k g. List·getD-eq-default s 0 (omega arith))
+
+-- ---- one list of bits after another
+
+tabulate-append : (k m : ℕ) (F : ℕ → ℕ) → tabulate (k + m) F ≡ tabulate k F ++ tabulate m (λ j. F (k + j))
+unfolding tabulate
+tabulate-append k zero F = ap (λ (n : ℕ). tabulate n F) (add-zero k) ∙ sym (append-nil (tabulate k F))
+tabulate-append k (suc m) F =
+    ap (λ (n : ℕ). tabulate n F) (add-suc k m)
+    ∙ ap (λ (l : List ℕ). l ++ (F (k + m) ∷ [])) (tabulate-append k m F)
+    ∙ append-assoc (tabulate k F) (tabulate m (λ j. F (k + j))) (F (k + m) ∷ [])
+
+byte-front : (x y : List ℕ) (j : ℕ) → 8 * j + 8 ≤ length x → byteAt (x ++ y) j ≡ byteAt x j
+byte-front x y j h = byte-cong (x ++ y) x j j (λ k g. List·getD-append x y 0 (8 * j + k) (omega arith))
+
+byte-after : (x y : List ℕ) (m j : ℕ) → length x ≡ 8 * m → byteAt (x ++ y) (m + j) ≡ byteAt y j
+byte-after x y m j h =
+    byte-cong (x ++ y) y (m + j) j
+    (λ k g. let e : 8 * (m + j) + k ≡ length x + (8 * j + k) = omega arith in
+    ap (λ (n : ℕ). getD (x ++ y) n 0) e ∙ getD-append-add x y (8 * j + k) 0)
+
+pub bytes-append : (m q : ℕ) (x y : List ℕ) → length x ≡ 8 * m → bytesOf (m + q) (x ++ y) ≡ bytesOf m x ++ bytesOf q y
+unfolding bytesOf
+bytes-append m q x y h =
+    tabulate-append m q (byteAt (x ++ y))
+    ∙ ap₂ (λ (a b : List ℕ). a ++ b)
+    (tabulate-cong m (byteAt (x ++ y)) (byteAt x) (λ j g. byte-front x y j (omega arith)))
+    (tabulate-cong q (λ j. byteAt (x ++ y) (m + j)) (byteAt y) (λ j g. byte-after x y m j h))
+
+-- the bytes of a list's whole bytes, with more bits after it
+pub bytes-front : (n : ℕ) (x y : List ℕ) → 8 * n ≤ length x → bytesOf n (x ++ y) ≡ bytesOf n x
+unfolding bytesOf
+bytes-front n x y h = tabulate-cong n (byteAt (x ++ y)) (byteAt x) (λ j g. byte-front x y j (omega arith))

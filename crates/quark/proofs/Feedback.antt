@@ -1,4 +1,4 @@
--- f, g and h depend on the bits at their taps alone, and on a0 only by its sum. Assumes nothing.
+-- f, g and h depend on the bits at their taps alone, and on a0 only by its sum.
 use mathlib.Core.List.{List, [], _∷_}
 use mathlib.Core.Path.{_≡_, refl, ap₂, _∙_}
 use Prim.Native.Nat.{ℕ, zero, suc, _+_, _*_, _%_, _<_, _≤_}

@@ -1,11 +1,11 @@
--- The three instances are regular: their taps are lawful, a state is two halves and whole bytes, and the initial bits are b bits.
--- Assumes nothing.
+-- The three instances are regular: their taps are lawful, a state is two halves, and the initial bits are b bits. That a state is also whole
+-- bytes, at most 32, is apart from that: no law of the sponge needs it.
 use mathlib.Core.Bool.{Bool, true, false, cond}
 use mathlib.Core.List.{List, [], _∷_}
-use mathlib.Core.Path.{_≡_, sym, ap, ap₂, subst}
+use mathlib.Core.Path.{_≡_, refl, sym, ap, ap₂, subst}
 use Prim.Native.Nat.{ℕ, _*_, _/_, _<_, _≤_}
 use borrow.Author.Tests.{ne-eqb}
-use lib.Dec.{T, leb, ltb, eqb, leb→le, eqb→eq}
+use lib.Dec.{T, leb, ltb, eqb, leb→le, eqb→eq, lit≤}
 use Rattle.quark.specs.Step.{P}
 use Rattle.quark.specs.Inverse.{undoP}
 use Rattle.quark.specs.Instance.{Instance, U, D, S, instanceOf}
@@ -18,18 +18,19 @@ use Rattle.quark.proofs.Tests.{every, each}
 pub record Regular (I : Instance) : Type 0 where
   pub lawful : Lawful (I .taps)
   pub two-halves : I .b ≡ 2 * I .taps .half
-  pub whole-bytes : I .b ≡ 8 * (I .b / 8)
-  pub at-most-256 : I .b ≤ 256
   pub some-rate : 0 < I .r
   pub rate-fits : I .r ≤ I .b
   pub some-output : 0 < I .n / I .r
   pub wide-initial : Wide (I .b) (I .initial)
 
+-- the byte form of a state: whole bytes, at most 32
+pub record InBytes (I : Instance) : Type 0 where
+  pub whole-bytes : I .b ≡ 8 * (I .b / 8)
+  pub at-most-256 : I .b ≤ 256
+
 tests : Instance → List Bool
 tests I =
     eqb (I .b) (2 * I .taps .half)
-    ∷ eqb (I .b) (8 * (I .b / 8))
-    ∷ leb (I .b) 256
     ∷ ltb 0 (I .r)
     ∷ leb (I .r) (I .b)
     ∷ ltb 0 (I .n / I .r)
@@ -42,11 +43,9 @@ tested I lawful wide t =
     record {
       lawful = lawful;
       two-halves = eqb→eq (I .b) (2 * I .taps .half) (c .0);
-      whole-bytes = eqb→eq (I .b) (8 * (I .b / 8)) (c .1 .0);
-      at-most-256 = leb→le (I .b) 256 (c .1 .1 .0);
-      some-rate = leb→le 1 (I .r) (c .1 .1 .1 .0);
-      rate-fits = leb→le (I .r) (I .b) (c .1 .1 .1 .1 .0);
-      some-output = leb→le 1 (I .n / I .r) (c .1 .1 .1 .1 .1 .0);
+      some-rate = leb→le 1 (I .r) (c .1 .0);
+      rate-fits = leb→le (I .r) (I .b) (c .1 .1 .0);
+      some-output = leb→le 1 (I .n / I .r) (c .1 .1 .1 .0);
       wide-initial = wide;
     }
 
@@ -74,6 +73,12 @@ of-each F u d s i = first (eqb i 1) (eqb i 2)
 
 pub regular : (i : ℕ) → Regular (instanceOf i)
 regular = of-each Regular regular-U regular-D regular-S
+
+pub in-bytes : (i : ℕ) → InBytes (instanceOf i)
+unfolding U D S
+in-bytes =
+    of-each InBytes (record { whole-bytes = refl; at-most-256 = lit≤ tt }) (record { whole-bytes = refl; at-most-256 = lit≤ tt })
+    (record { whole-bytes = refl; at-most-256 = lit≤ tt })
 
 -- the instance of a number that was tested
 pub is-U : (i : ℕ) → i ≡ 1 → instanceOf i ≡ U

@@ -1,18 +1,18 @@
 -- A step undone is the start and an undone step redone is too, for any lawful taps; so are n steps, and P and its inverse on b bits.
--- Steps, P and their inverses keep lengths and bits. Assumes nothing.
+-- Steps, P and their inverses keep lengths and bits.
 use mathlib.Core.List.{List, [], _∷_, _++_}
 use mathlib.Core.Path.{_≡_, refl, sym, ap, ap₂, _∙_}
 use Prim.Native.Nat.{ℕ, zero, suc, _+_, _*_, _-_, _%_, _<_}
 use native.Mathlib.Nat.{not-suc-le-zero}
 use native.Mathlib.Omega.{arith}
 use lib.ListN.{List·getD-append, length, take, length-append, length-take, length-drop, take-append-drop}
-use lib.Seq.{take-at, drop-at, getD-at, getD-take, take-suc, take-all}
+use lib.Seq.{take-at, drop-at, getD-at, getD-take}
 use Rattle.quark.specs.Bytes.{bit}
 use Rattle.quark.specs.Feedback.{Taps, f, g, h, p}
 use Rattle.quark.specs.Step.{Registers, shift, stepL, step, steps, stepsL, allOnes, loaded, stored, rounds, P}
 use Rattle.quark.specs.Inverse.{unshift, gained, undoStepL, undoStep, undoSteps, undoP}
 use Rattle.quark.specs.leaf.Together.{gainX, gainY}
-use Rattle.quark.proofs.Bits.{none, more, Wide, parity-lt, bits-append, bits-take, bits-drop, bits-at, bits-replicate}
+use Rattle.quark.proofs.Bits.{none, more, Wide, parity-lt, bits-append, bits-take, bits-drop, bits-at, split-last, bits-replicate}
 use Rattle.quark.proofs.Taps.{Lawful}
 use Rattle.quark.proofs.Feedback.{f-zero, g-zero, h-zero}
 use Rattle.quark.proofs.Together.{registers-path, steps-L}
@@ -30,13 +30,6 @@ front-snoc r v = take-at r (v ∷ []) (length (r ++ (v ∷ [])) - 1) (let e = le
 gained-snoc : (r : List ℕ) (v : ℕ) → gained (r ++ (v ∷ [])) ≡ v
 unfolding gained
 gained-snoc r v = getD-at r v [] 0 (length (r ++ (v ∷ [])) - 1) (let e = length-append r (v ∷ []) in omega arith)
-
--- a register is its bits but the last, and the last
-ends : (r : List ℕ) → 0 < length r → front r ++ (gained r ∷ []) ≡ r
-unfolding front gained
-ends r h =
-    let e : suc (length r - 1) ≡ length r = omega arith in
-    sym (take-suc r (length r - 1) 0 (omega arith)) ∙ ap (λ (k : ℕ). take k r) e ∙ take-all (length r) r (omega arith)
 
 bit-above : (v w : ℕ) (r : List ℕ) (i : ℕ) → 0 < i → bit (v ∷ r) i ≡ bit (w ∷ r) i
 bit-above v w r zero h = absurd (not-suc-le-zero h)
@@ -56,12 +49,12 @@ undo-L (a ∷ t) w =
     ap₂ (λ (x : ℕ) (r : List ℕ). x ∷ r) (omega arith) (front-snoc t v)
 
 redo-L : (l : List ℕ) → Wide 10 l → stepL (undoStepL l) ≡ l
-unfolding undoStepL stepL shift p unshift front
+unfolding undoStepL stepL shift p unshift gained
 redo-L l w =
     let n : length l ≡ 10 = w .0 in
     let third : bit (take (length l - 1) l) 2 ≡ bit l 2 = getD-take (length l - 1) l 2 0 (omega arith) in
-    let small : gained l < 2 = unfold gained in bits-at (w .1) (length l - 1) in
-    ap (λ (v : ℕ). take (length l - 1) l ++ (v ∷ [])) (omega arith) ∙ ends l (omega arith)
+    let small : bit l (length l - 1) < 2 = bits-at (w .1) (length l - 1) in
+    ap (λ (v : ℕ). take (length l - 1) l ++ (v ∷ [])) (omega arith) ∙ split-last (length l - 1) l (omega arith)
 
 -- ---- lengths and bits are kept
 
@@ -175,14 +168,15 @@ module _ (T : Taps) (lawful : Lawful T) where
 
   -- an undone step redone is the start
   pub redo-step : (s : Registers) → Sized T s → step T (undoStep T s) ≡ s
-  unfolding gained
+  unfolding front gained
   redo-step s z =
       let nx = z .wideX .0 in
       let ny = z .wideY .0 in
       ap (step T) (undo-before T s)
       ∙ redo-parts (front (s .X)) (front (s .Y)) (undoStepL (s .L)) (gained (s .X)) (gained (s .Y)) (bits-at (z .wideX .1) (length (s .X) - 1))
       (bits-at (z .wideY .1) (length (s .Y) - 1))
-      ∙ registers-path (ends (s .X) (omega (arith, lawful .some-half))) (ends (s .Y) (omega (arith, lawful .some-half))) (redo-L (s .L) (z .wideL))
+      ∙ registers-path (split-last (length (s .X) - 1) (s .X) (omega (arith, lawful .some-half)))
+      (split-last (length (s .Y) - 1) (s .Y) (omega (arith, lawful .some-half))) (redo-L (s .L) (z .wideL))
 
   -- ---- n steps, there and back, keep lengths and bits
 

@@ -2,6 +2,7 @@
 pub mod Samples
 pub mod MoreSamples
 pub mod Word
+pub mod Weights
 pub mod Mask
 pub mod Bits
 pub mod Tests
@@ -15,4 +16,5 @@ pub mod Padding
 pub mod Runs
 pub mod Sums
 pub mod Blocks
+pub mod Forward
 pub mod CloseAlike

@@ -1,4 +1,4 @@
--- The sum of the linear taps is the parity of the ones under a mask (document 01, "Taps and feedback"). Assumes nothing.
+-- The sum of the linear taps is the parity of the ones under a mask (document 01, "Taps and feedback").
 use mathlib.Core.Path.{_≡_, sym, ap, ap₂, _∙_}
 use mathlib.Core.List.{List}
 use Prim.Native.Nat.{ℕ, zero, suc, _+_, _*_, _/_, _%_, _^_, _<_}

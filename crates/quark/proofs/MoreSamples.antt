@@ -1,4 +1,4 @@
--- Facts about the definition that the starred samples don't see, by computation. Assumes nothing.
+-- Facts about the definition that the starred samples don't see, by computation.
 use mathlib.Core.List.{[], _∷_}
 use mathlib.Core.Path.{_≡_, refl}
 use Prim.Native.Nat.{_*_, _/_}
@@ -7,11 +7,11 @@ use Rattle.quark.specs.Bytes.{tabulate, bitAt, bitsOf, byteAt, bytesOf}
 use Rattle.quark.specs.Feedback.{g, feedback, exchange}
 use Rattle.quark.specs.Step.{rounds}
 use Rattle.quark.specs.Instance.{U, D, S}
-use Rattle.quark.proofs.Samples.{only, both}
+use Rattle.quark.proofs.Samples.{only, onlyTwo}
 
 pub more :
     -- U, g with only Y16: 1; only Y15: 0; Y7 and Y15: 0
-    (g (U .taps) (only 16) ≡ 1) × (g (U .taps) (only 15) ≡ 0) × (g (U .taps) (both 7 15) ≡ 0)
+    (g (U .taps) (only 16) ≡ 1) × (g (U .taps) (only 15) ≡ 0) × (g (U .taps) (onlyTwo 7 15) ≡ 0)
     -- Appendix A's own example: U's initial state begins 1101
     × (take 4 (U .initial) ≡ 1 ∷ 1 ∷ 0 ∷ 1 ∷ [])
     -- the byte form there and back

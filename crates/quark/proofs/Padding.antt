@@ -1,5 +1,5 @@
 -- Padding, for any rate above 0: a padded form is total div r + 1 whole blocks, has as few zeros as make it so, and comes from one message
--- alone. Assumes nothing.
+-- alone.
 use mathlib.Core.List.{List, [], _∷_, _++_}
 use mathlib.Core.Path.{_≡_, refl, sym, ap, ap₂, _∙_}
 use Prim.Native.Nat.{ℕ, zero, suc, _+_, _*_, _-_, _/_, _%_, _<_}
@@ -45,17 +45,31 @@ module _ (I : Instance) where
       let z = I .r - 1 - length m % I .r in
       length-append m (1 ∷ replicate z 0) ∙ ap (λ (k : ℕ). length m + suc k) (length-replicate z 0) ∙ omega arith
 
+  -- ---- for every total of bits, from the count of zeros alone
+
+  module _ (some-rate : 0 < I .r) (total : ℕ) where
+    whole-blocks : total + 1 + (I .r - 1 - total % I .r) ≡ (total / I .r + 1) * I .r
+    whole-blocks = omega (arith, div-add-mod' total (I .r), mod-lt total some-rate)
+
+    -- a padded length is a multiple of r: line 8 of document 01 never holds
+    pub whole-padding : (total + 1 + (I .r - 1 - total % I .r)) % I .r ≡ 0
+    whole-padding = ap (λ (k : ℕ). k % I .r) whole-blocks ∙ mul-mod-left (total / I .r + 1) (I .r)
+
+  -- ---- for a message
+
   module _ (some-rate : 0 < I .r) (m : List ℕ) where
     pub length-pad : length (pad I m) ≡ (length m / I .r + 1) * I .r
-    length-pad = length-parts m ∙ omega (arith, div-add-mod' (length m) (I .r), mod-lt (length m) some-rate)
+    length-pad = length-parts m ∙ whole-blocks some-rate (length m)
 
-    -- line 8 of document 01 never holds
     pub pad-whole : length (pad I m) % I .r ≡ 0
-    pad-whole = ap (λ (k : ℕ). k % I .r) length-pad ∙ mul-mod-left (length m / I .r + 1) (I .r)
+    pad-whole = ap (λ (k : ℕ). k % I .r) (length-parts m) ∙ whole-padding some-rate (length m)
 
     pub block-count : blockCount I m ≡ length m / I .r + 1
     unfolding blockCount
     block-count = ap (λ (k : ℕ). k / I .r) length-pad ∙ mul-div-cancel (length m / I .r + 1) some-rate
+
+    pub length-blocks : length (pad I m) ≡ blockCount I m * I .r
+    length-blocks = length-pad ∙ ap (λ (k : ℕ). k * I .r) (sym block-count)
 
     -- fewer zeros do not reach a multiple of r
     pub pad-least : (z : ℕ) → z < I .r - 1 - length m % I .r → (length m + 1 + z) % I .r ≡ 0 → ⊥

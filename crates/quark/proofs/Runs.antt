@@ -1,5 +1,5 @@
 -- How often the definition runs P: once for each block before a state, total div r times while absorbing, and n/r times more until the
--- state is closed. Assumes nothing.
+-- state is closed. In squeezing, k runs after one run are k + 1.
 use mathlib.Core.List.{List}
 use mathlib.Core.Path.{_≡_, refl, ap, _∙_}
 use Prim.Native.Nat.{ℕ, zero, suc, _+_, _-_, _/_}
@@ -24,6 +24,12 @@ module _ (I : Instance) where
   unfolding squeezed runP
   runs-squeezed zero s = omega arith
   runs-squeezed (suc k) s = omega (arith, runs-squeezed k s)
+
+  -- k runs after one run are k + 1
+  pub squeezed-run : (k : ℕ) (s : Counted) → squeezed I k (runP I s) ≡ squeezed I (suc k) s
+  unfolding squeezed
+  squeezed-run zero s = refl
+  squeezed-run (suc k) s = ap (runP I) (squeezed-run k s)
 
   pub runs-closed : Regular I → (m : List ℕ) → closed I m .runs ≡ length m / I .r + I .n / I .r
   unfolding closed absorbed

@@ -1,5 +1,4 @@
 -- The starred lines of document 01, "Sample values": one list of facts about the definition, proved together by computation.
--- Assumes nothing.
 use mathlib.Core.List.{[], _∷_}
 use mathlib.Core.Path.{_≡_, refl}
 use Prim.Native.Nat.{ℕ}
@@ -20,8 +19,8 @@ abbrev pub only : ℕ → ℕ → ℕ
 only k i = bit (set (replicate 128 0) k 1) i
 
 -- only bits j and k are 1
-abbrev pub both : ℕ → ℕ → ℕ → ℕ
-both j k i = bit (set (set (replicate 128 0) j 1) k 1) i
+abbrev pub onlyTwo : ℕ → ℕ → ℕ → ℕ
+onlyTwo j k i = bit (set (set (replicate 128 0) j 1) k 1) i
 
 -- U's registers: all zero, with L all ones
 abbrev zeros : Registers
@@ -36,7 +35,7 @@ pub starred :
     × (f (D .taps) (all 1) ≡ 0) × (g (D .taps) (all 1) ≡ 0)
     × (f (S .taps) (all 1) ≡ 0) × (g (S .taps) (all 1) ≡ 0)
     -- U, f with only X15: 0; only X14: 1; X9 and X15: 0
-    × (f (U .taps) (only 15) ≡ 0) × (f (U .taps) (only 14) ≡ 1) × (f (U .taps) (both 9 15) ≡ 0)
+    × (f (U .taps) (only 15) ≡ 0) × (f (U .taps) (only 14) ≡ 1) × (f (U .taps) (onlyTwo 9 15) ≡ 0)
     -- h on all ones, L0 = 1 then 0: U 0, 1; D 1, 0; S 0, 1
     × (h (U .taps) (all 1) (all 1) (all 1) ≡ 0) × (h (U .taps) (all 1) (all 1) (all 0) ≡ 1)
     × (h (D .taps) (all 1) (all 1) (all 1) ≡ 1) × (h (D .taps) (all 1) (all 1) (all 0) ≡ 0)

@@ -1,7 +1,7 @@
--- Sums of lists of bits, bit by bit, and what is added from a place on. Assumes nothing.
+-- Sums of lists of bits, bit by bit, and what is added from a place on.
 use mathlib.Core.List.{List, [], _∷_, _++_}
 use mathlib.Core.Path.{_≡_, refl, sym, ap, ap₂, _∙_, subst}
-use Prim.Native.Nat.{ℕ, zero, suc, _+_, _%_, _<_}
+use Prim.Native.Nat.{ℕ, zero, suc, _+_, _%_, _<_, _≤_}
 use native.Mathlib.Nat.{le-of-suc-le-suc, not-suc-le-zero, suc-ne-zero, suc-inj, zero-add, suc-add}
 use native.Mathlib.Omega.{arith}
 use lib.ListN.{length, getD, set, take, drop, replicate, length-append, length-drop, length-replicate, take-append-drop}
@@ -119,10 +119,25 @@ bits-addFrom k ys b = bits-append (bits-take k b) (bits-sum ys (bits-drop k b))
 pub addFrom-nil : (k : ℕ) (s : List ℕ) → addFrom k s [] ≡ s
 addFrom-nil k s = ap (λ (l : List ℕ). take k s ++ l) (sum-nil (drop k s)) ∙ take-append-drop k s
 
+-- what is added twice is gone
+sum-twice : (xs ys : List ℕ) → Bits xs → sum (sum xs ys) ys ≡ xs
+unfolding sum
+sum-twice [] ys b = refl
+sum-twice (x ∷ xs) [] b = refl
+sum-twice (x ∷ xs) (y ∷ ys) (more p b) = cons-eq (omega arith) (sum-twice xs ys b)
+
+pub addFrom-twice : (k : ℕ) (s ys : List ℕ) → k ≤ length s → Bits s → addFrom k (addFrom k s ys) ys ≡ s
+addFrom-twice k s ys h b =
+    let front = take k s in
+    let n : length front ≡ k = length-take-le k s h in
+    ap₂ (λ (a c : List ℕ). a ++ sum c ys) (take-at front (sum (drop k s) ys) k n) (drop-at front (sum (drop k s) ys) k n)
+    ∙ ap (λ (l : List ℕ). front ++ l) (sum-twice (drop k s) ys (bits-drop k b))
+    ∙ take-append-drop k s
+
 pub addFrom-zeros : (k : ℕ) (s ys : List ℕ) (n : ℕ) → Bits s → addFrom k s (ys ++ replicate n 0) ≡ addFrom k s ys
 addFrom-zeros k s ys n b = ap (λ (l : List ℕ). take k s ++ l) (sum-append-zeros (drop k s) ys n (bits-drop k b))
 
--- one more bit is added right behind what is added already
+-- one more bit is added right after what is added already
 sum-snoc : (s ys : List ℕ) (x : ℕ) → length ys < length s → addAt (sum s ys) (length ys) x ≡ sum s (ys ++ (x ∷ []))
 unfolding sum
 sum-snoc [] ys x h = absurd (not-suc-le-zero h)
@@ -174,3 +189,13 @@ module _ (k n : ℕ) (s t ys zs : List ℕ) (hs : length s ≡ k + n) (ht : leng
       (sym (take-sum k s t) ∙ ap (λ (l : List ℕ). take k l) e ∙ take-at (replicate k 0) (sum ys zs) k (length-replicate k 0)))
       (swap-sums (drop k s) (drop k t) ys zs (length-back′ ∙ sym length-back) (hy ∙ sym length-back) (hz ∙ sym length-back)
       (sym (drop-sum k s t) ∙ ap (λ (l : List ℕ). drop k l) e ∙ drop-at (replicate k 0) (sum ys zs) k (length-replicate k 0)))
+
+  -- where the lists are equal and differ by that difference, what is added is equal
+  pub same-added : s ≡ t → Bits ys → Bits zs → sum s t ≡ replicate k 0 ++ sum ys zs → ys ≡ zs
+  same-added same by bz e =
+      sum-zero ys zs n hy hz by bz
+      (sym (drop-at (replicate k 0) (sum ys zs) k (length-replicate k 0))
+      ∙ ap (drop k) (sym e ∙ ap (sum s) (sym same))
+      ∙ drop-sum k s s
+      ∙ sum-same (drop k s)
+      ∙ ap (λ (m : ℕ). replicate m 0) length-back)

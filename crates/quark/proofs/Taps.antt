@@ -1,5 +1,5 @@
 -- What the laws ask of an instance's taps, as a fact and as a test that is computed: a0 of f and of g alone is at 0, h's taps are above 0,
--- and every tap, `reach` added, is at most the half. The three instances meet it. Assumes nothing.
+-- and every tap, `reach` added, is at most the half. The three instances meet it.
 use mathlib.Core.Bool.{Bool, true, _&&_}
 use mathlib.Core.List.{List, [], _∷_, _++_}
 use mathlib.Core.Path.{_≡_}

@@ -1,4 +1,4 @@
--- Several tests at once: where all of them pass by computation, each has passed. Assumes nothing.
+-- Several tests at once: where all of them pass by computation, each has passed.
 use mathlib.Core.Bool.{Bool, true, false, _&&_}
 use mathlib.Core.List.{List, [], _∷_}
 use lib.Dec.{T}

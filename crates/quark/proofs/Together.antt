@@ -1,5 +1,5 @@
 -- Several steps together, for any taps and any width w with every tap + w at most the half: w steps are the registers moved by w, with
--- w new bits, each from the old registers. L goes its own way. Assumes nothing.
+-- w new bits, each from the old registers. L goes its own way.
 use mathlib.Core.List.{List, [], _∷_, _++_, append-assoc, append-nil}
 use mathlib.Core.Path.{_≡_, refl, sym, ap, _∙_}
 use Prim.Native.Nat.{ℕ, zero, suc, _+_, _<_, _≤_}

@@ -1,4 +1,4 @@
--- Laws of a word's bits: `&`, `^`, shifts and remainders, at one bit and as a list. Assumes nothing.
+-- Laws of a word's bits: `&`, `^`, shifts and remainders, at one bit and as a list.
 use mathlib.Core.Path.{_≡_, refl, sym, ap, ap₂, _∙_}
 use mathlib.Core.List.{List, [], _∷_, _++_}
 use Prim.Native.Nat.{ℕ, zero, suc, _+_, _*_, _-_, _/_, _%_, _^_, _<_, min}
@@ -130,7 +130,7 @@ append-wordBits (suc a) w n m h =
     (append-wordBits a w (n / 2) m (half-lt a n h) ∙ ap (wordBits (a + w)) (sym (block-half m a n)))
     ∙ ap (λ (k : ℕ). wordBits k (m * 2 ^ suc a + n)) (sym (suc-add a w))
 
--- one more bit behind, and one more in front
+-- one more bit at the end, and one more in front
 pub snoc-wordBits : (j n : ℕ) → wordBits (suc j) n ≡ wordBits j n ++ (wordBit n j ∷ [])
 unfolding wordBits
 snoc-wordBits zero n = ap (λ (b : ℕ). b ∷ []) (sym (wordBit-zero n))
@@ -141,7 +141,7 @@ pub cons-wordBits : (k r b : ℕ) → b < 2 → wordBits (suc k) (r * 2 + b) ≡
 unfolding wordBits
 cons-wordBits k r b h = ap₂ (λ (x y : ℕ). x ∷ wordBits k y) (digits-mod r h) (digits-div r h)
 
--- a register moved down by w, with the w bits of m behind
+-- a register moved down by w, with the w bits of m after it
 pub move-wordBits : (w a n m : ℕ) → n < 2 ^ (w + a) → drop w (wordBits (w + a) n) ++ wordBits w m ≡ wordBits (a + w) (m * 2 ^ a + n / 2 ^ w)
 move-wordBits w a n m h =
     ap (λ (l : List ℕ). l ++ wordBits w m) (drop-wordBits w a n) ∙ append-wordBits a w (n / 2 ^ w) m (shr-lt a w (rw add-comm at h))

@@ -1,5 +1,5 @@
 -- Bits and their byte form (document 01, "Steps, permutation and inverse"). Message bits are ordered like state bits.
--- A bit is the number 0 or 1. A list of bits has bit 0 first. Assumes nothing.
+-- A bit is the number 0 or 1. A list of bits has bit 0 first.
 use mathlib.Core.List.{List, [], _∷_, _++_}
 use Prim.Native.Nat.{ℕ, zero, suc, _+_, _*_, _-_, _/_, _%_, _^_}
 use lib.ListN.{getD}

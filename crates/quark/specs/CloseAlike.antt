@@ -1,5 +1,5 @@
 -- When two messages close alike (document 01, "Pieces and finish"): the terms of demand 3, for two messages of one instance whose padded
--- forms have equally many blocks. Assumes nothing.
+-- forms have equally many blocks.
 use mathlib.Core.List.{List, _++_}
 use mathlib.Core.Logic.{_≢_}
 use mathlib.Core.Path.{_≡_}

@@ -1,6 +1,5 @@
 -- The taps of an instance and its functions f, g and h (QUARK 3.3; document 01, "Taps and feedback").
 -- A register is given to them by its bits: X i is the paper's X_i. A sum of bits is the sum of the numbers, modulo 2.
--- Assumes nothing.
 use mathlib.Core.List.{List, [], _∷_}
 use Prim.Native.Nat.{ℕ, _+_, _*_, _%_}
 use lib.ListN.{getD, set}

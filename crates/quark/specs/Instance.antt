@@ -1,12 +1,12 @@
--- The three instances (QUARK 3.3, Table 1 and Appendix A; document 01, "Taps and feedback"). Assumes nothing.
+-- The three instances (QUARK 3.3, Table 1 and Appendix A; document 01, "Taps and feedback").
 --
 --   No.  instance  r   b and n  steps 4b  n/r
 --   1    U         8   136      544       17
 --   2    D         16  176      704       11
 --   3    S         32  256      1024      8
-use mathlib.Core.Bool.{cond}
+use mathlib.Core.Bool.{Bool, _&&_, _||_, cond}
 use mathlib.Core.List.{List, [], _∷_}
-use Prim.Native.Nat.{ℕ}
+use Prim.Native.Nat.{ℕ, _/_}
 use lib.Dec.{eqb}
 use Rattle.quark.specs.Bytes.{bitsOf}
 use Rattle.quark.specs.Feedback.{Taps}
@@ -101,3 +101,15 @@ S = record {
 -- first (line 1 of document 01).
 unfoldable pub instanceOf : ℕ → Instance
 instanceOf i = cond (eqb i 1) U (cond (eqb i 2) D S)
+
+-- the numbers of the instances
+unfoldable pub isInstance : ℕ → Bool
+isInstance i = eqb i 1 || eqb i 2 || eqb i 3
+
+-- the step widths of an instance: 1 and 8 for each, 16 for S only
+unfoldable pub isWidth : (i w : ℕ) → Bool
+isWidth i w = eqb w 1 || eqb w 8 || (eqb w 16 && eqb i 3)
+
+-- the bytes of a state and of a digest: b/8
+unfoldable pub stateBytes : ℕ → ℕ
+stateBytes i = instanceOf i .b / 8

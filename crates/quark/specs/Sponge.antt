@@ -1,5 +1,5 @@
 -- The sponge (QUARK 3.1; document 01, "Pieces and finish"): the padded form, its blocks, absorbing and squeezing, over P of an instance.
--- Each application of P is counted where it is made. Assumes nothing.
+-- Each application of P is counted where it is made.
 use mathlib.Core.List.{List, [], _∷_, _++_}
 use Prim.Native.Nat.{ℕ, zero, suc, _+_, _*_, _-_, _/_, _%_}
 use lib.ListN.{length, take, drop, replicate}
@@ -41,12 +41,13 @@ module _ (I : Instance) where
   unfoldable pub block : List ℕ → ℕ → List ℕ
   block l k = take (I .r) (drop (k * I .r) l)
 
-  -- document 01's state just before block k: from the initial bits, each earlier block in turn is added to the last r bits and P runs
+  -- document 01's state just before block k: from the initial bits, the earlier blocks one after another are added to the last r bits, with P
+  -- after each
   unfoldable pub before : List ℕ → ℕ → Counted
   before l zero = record { bits = I .initial; runs = 0 }
   before l (suc k) = runP (absorb (before l k) (block l k))
 
-  -- the state of an open message: its full blocks have gone in with P behind each, and what is left is added
+  -- the state of an open message: its full blocks have gone in with P after each, and what is left is added
   unfoldable pub absorbing : List ℕ → Counted
   absorbing m = absorb (before m (length m / I .r)) (block m (length m / I .r))
 

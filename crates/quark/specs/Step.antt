@@ -1,4 +1,4 @@
--- One step, n steps, and the permutation P (QUARK 3.2; document 01, "Steps, permutation and inverse"). Assumes nothing.
+-- One step, n steps, and the permutation P (QUARK 3.2; document 01, "Steps, permutation and inverse").
 use mathlib.Core.List.{List, [], _∷_, _++_}
 use Prim.Native.Nat.{ℕ, zero, suc, _+_, _*_, _%_}
 use lib.ListN.{take, drop, replicate}

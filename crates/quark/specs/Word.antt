@@ -1,4 +1,4 @@
--- Bits in a machine word: bit i has weight 2 ^ i. The word form of the registers is stated with these forms. Assumes nothing.
+-- Bits in a machine word: bit i has weight 2 ^ i. The word form of the registers is stated with these forms.
 use mathlib.Core.List.{List, [], _∷_}
 use Prim.Native.Nat.{ℕ, zero, suc, _/_, _%_, _^_}
 

@@ -1,8 +1,8 @@
 // The whole digest for a C host.
 ghost use mathlib.Core.Path.{_≡_};
-ghost use Rattle.permutation.specs.Outcome.{numberOf};
+ghost use Rattle.refusals.specs.Outcome.{numberOf};
 ghost use Rattle.sponge.specs.Outcomes.{digestOutcome, digestBytes};
-use crate::number_of;
+use refusals::number_of;
 
 // Writes the digest of the first `bit_count` bits of the message to the buffer. 0; or the number of the first of lines 1, 4, 5, 6, 7 and 8
 // that holds, and the buffer is untouched.

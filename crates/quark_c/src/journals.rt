@@ -1,11 +1,10 @@
 // Sealing and the journal check for a C host.
 ghost use mathlib.Core.Path.{_≡_};
-ghost use Rattle.permutation.specs.Outcome.{numberOf};
-ghost use Rattle.records.specs.Seal.{sealedOutcome, sealOutcome, sealBytes};
-ghost use Rattle.journal.specs.Journal.{verdictOutcome, verifyOutcome};
-ghost use Rattle.quark_c.specs.Place.{placeOf};
+ghost use Rattle.refusals.specs.Outcome.{numberOf, placeOf};
+ghost use Rattle.records.specs.Record.{today};
+ghost use Rattle.records.specs.Sealing.{sealedOutcome, sealOutcome, sealBytes};
+ghost use Rattle.journal.specs.Journal.{verifyOutcome};
 use journal::Sealed;
-use journal::Verdict;
 
 // 0, or the refusal's number.
 fn number_of_sealed(sealed: Sealed) -> u32
@@ -14,25 +13,6 @@ fn number_of_sealed(sealed: Sealed) -> u32
     match sealed {
         Sealed::Runs(_) => 0,
         Sealed::Refused(refusal) => refusal.number,
-    }
-}
-
-fn number_of_verdict(verdict: Verdict) -> u32
-    ensures { λ r. ⌜ r ≡ numberOf (verdictOutcome verdict) ⌝ }
-{
-    match verdict {
-        Verdict::Accepted { .. } => 0,
-        Verdict::Refused(refusal) => refusal.number,
-    }
-}
-
-// 0, or the refusal's place.
-fn place_of_verdict(verdict: Verdict) -> u64
-    ensures { λ r. ⌜ r ≡ placeOf (verdictOutcome verdict) ⌝ }
-{
-    match verdict {
-        Verdict::Accepted { .. } => 0,
-        Verdict::Refused(refusal) => refusal.place as u64,
     }
 }
 
@@ -49,15 +29,15 @@ pub extern "C" fn journal_seal(key: &[u8], previous: &[u8], body: &[u8], record:
 // Checks a journal. 0; or the number of the first of lines 5 and 9 that holds, else of lines 10, 11 and 12 record by record.
 #[no_mangle]
 pub extern "C" fn journal_verify(key: &[u8], journal: &[u8]) -> u32
-    ensures { λ r. ⌜ r ≡ numberOf (verifyOutcome (now (key .entry)) (now (journal .entry))) ⌝ }
+    ensures { λ r. ⌜ r ≡ numberOf (verifyOutcome today (now (key .entry)) (now (journal .entry))) ⌝ }
 {
-    number_of_verdict(journal::verify(key, journal))
+    journal::refusal_of(journal::verify(key, journal)).number
 }
 
 // The place at which `journal_verify` refuses the same inputs: the record's index for lines 10 to 12, else 0. 0 where it accepts them.
 #[no_mangle]
 pub extern "C" fn journal_refused_at(key: &[u8], journal: &[u8]) -> u64
-    ensures { λ r. ⌜ r ≡ placeOf (verifyOutcome (now (key .entry)) (now (journal .entry))) ⌝ }
+    ensures { λ r. ⌜ r ≡ placeOf (verifyOutcome today (now (key .entry)) (now (journal .entry))) ⌝ }
 {
-    place_of_verdict(journal::verify(key, journal))
+    journal::refusal_of(journal::verify(key, journal)).place as u64
 }

@@ -1,24 +1,14 @@
 // The functions of this project for a C host: numbers and byte slices in, a number out. A slice is two arguments in C, the pointer and the
 // length. No function keeps a state of its own.
 ghost use mathlib.Core.Path.{_≡_};
+ghost use Rattle.refusals.specs.Outcome.{numberOf};
 ghost use Rattle.quark.specs.Step.{P};
 ghost use Rattle.quark.specs.Inverse.{undoP};
-ghost use Rattle.permutation.specs.Outcome.{outcomeOf, numberOf};
 ghost use Rattle.permutation.specs.Permute.{permuteOutcome, overwritten};
-use permutation::Answer;
+use refusals::number_of;
 
 mod digest;
 mod journals;
-
-// What a C host gets for an answer: 0 where the call was accepted, else the refusal's number.
-fn number_of(answer: Answer) -> u32
-    ensures { λ r. ⌜ r ≡ numberOf (outcomeOf answer) ⌝ }
-{
-    match answer {
-        Answer::Accepted => 0,
-        Answer::Refused(refusal) => refusal.number,
-    }
-}
 
 // Overwrites the bits of an instance's state by P of them. 0; or the number of the first of lines 1, 4 and 5 that holds, and the state is
 // untouched.

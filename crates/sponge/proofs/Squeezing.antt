@@ -1,201 +1,149 @@
--- Giving out the last r bits, turn by turn, as bytes. Assumes nothing.
-use mathlib.Core.List.{List, _++_, append-nil}
+-- Giving out blocks: for each of them P runs, and the last r bits are written as bytes.
+use mathlib.Core.List.{List, [], _++_, append-nil}
 use mathlib.Core.Path.{_≡_, refl, sym, ap, ap₂, _∙_}
 use Prim.Native.Nat.{ℕ, zero, suc, _+_, _*_, _-_, _/_, _≤_, _<_}
-use native.Mathlib.Nat.{zero-add, add-mul, mul-le-mul-right}
+use native.Mathlib.Nat.{zero-mul, add-mul, mul-le-mul-right}
 use native.Mathlib.Numerals.{add-one}
 use native.Mathlib.Omega.{arith}
 use lib.ListN.{length, take, drop, length-append, length-drop, drop-of-length-le}
 use lib.Seq.{paste, take-at, drop-at, drop-drop, take-all}
-use Rattle.quark.specs.Bytes.{bitsOf, bytesOf}
+use Rattle.quark.specs.Bytes.{tabulate, bytesOf}
 use Rattle.quark.specs.Instance.{U, D, S, instanceOf}
 use Rattle.quark.specs.Sponge.{Counted, runP, squeezed, output}
 use Rattle.quark.proofs.Bits.{Wide}
-use Rattle.quark.proofs.Bytes.{length-bytesOf}
+use Rattle.quark.proofs.Bytes.{length-bytesOf, bytes-append}
 use Rattle.quark.proofs.Instance.{of-each, regular}
 use Rattle.quark.proofs.Blocks.{wide-squeezed}
-use Rattle.quark.proofs.Runs.{runs-squeezed}
-use Rattle.permutation.specs.Lines.{stateBytes}
+use Rattle.quark.proofs.Runs.{runs-squeezed, squeezed-run}
 use Rattle.sponge.specs.declared.State.{State}
+use Rattle.sponge.specs.Taking.{Content, holding}
 use Rattle.sponge.specs.Soundness.{contentOf, stateWith}
 use Rattle.sponge.specs.leaf.Ready.{ZeroPast, Ready, withSponge, lastBytes}
-use Rattle.sponge.proofs.StateBytes.{Bytes, whole-rate, bytes-append, bytes-last}
-use Rattle.sponge.proofs.Contents.{state-with-content, wide-content, with-again, ready-with}
-use Rattle.sponge.proofs.Soundness.{bits-content}
+use Rattle.sponge.proofs.StateBytes.{Bytes, whole-rate, bytes-last}
+use Rattle.sponge.proofs.Contents.{state-with-content, wide-content, of-content, ready-content}
 
 -- ---- lists
 
--- a part is written behind what was written
+-- a part is written after what was written
 paste-next : (x y d : List ℕ) (m q : ℕ) → length x ≡ m → length y ≡ q → paste (x ++ drop m d) m y q ≡ (x ++ y) ++ drop (m + q) d
 paste-next x y d m q ex ey =
     ap₂ (λ (a b : List ℕ). a ++ take q y ++ b) (take-at x (drop m d) m ex)
     (sym (drop-drop q m (x ++ drop m d)) ∙ ap (drop q) (drop-at x (drop m d) m ex) ∙ drop-drop q m d)
     ∙ ap (λ (z : List ℕ). x ++ z ++ drop (m + q) d) (take-all q y (omega arith))
 
--- the first part
-paste-first : (y d : List ℕ) (q : ℕ) → length y ≡ q → paste d 0 y q ≡ y ++ drop q (paste d 0 y q)
-paste-first y d q ey =
-    let e : paste d 0 y q ≡ y ++ drop q d =
-    ap₂ (λ (z : List ℕ) (k : ℕ). z ++ drop k d) (take-all q y (omega arith)) (zero-add q) in
-    e ∙ ap (λ (z : List ℕ). y ++ z) (sym (ap (drop q) e ∙ drop-at y (drop q d) q ey))
+-- of `count` parts of q bytes, part k fits
+pub part-fits : (k q count : ℕ) → k < count → k * q + q ≤ count * q
+part-fits k q count h = omega (arith, add-mul k 1 q, mul-le-mul-right {m = k + 1} {n = count} q (omega arith))
 
--- one more part of q bytes fits
-part-fits : (k q size count at : ℕ) → at ≡ k * q → k < count → count * q ≡ size → at + q ≤ size
-part-fits k q size count at e h w = omega (arith, add-mul k 1 q, mul-le-mul-right {m = k + 1} {n = count} q (omega arith))
-
--- ---- the turns
-
--- n/r parts of r/8 bytes are b/8 bytes
-whole-output : (i : ℕ) → instanceOf i .n / instanceOf i .r * (instanceOf i .r / 8) ≡ instanceOf i .b / 8
+-- n/r blocks of r/8 bytes are b/8 bytes
+pub whole-output : (i : ℕ) → instanceOf i .n / instanceOf i .r * (instanceOf i .r / 8) ≡ instanceOf i .b / 8
 unfolding U D S
 whole-output = of-each (λ I. I .n / I .r * (I .r / 8) ≡ I .b / 8) refl refl refl
 
-module _ (i : ℕ) where
-  length-last : (s : List ℕ) → length s ≡ instanceOf i .b → length (drop (instanceOf i .b - instanceOf i .r) s) ≡ 8 * (instanceOf i .r / 8)
-  length-last s e = length-drop (instanceOf i .b - instanceOf i .r) s ∙ omega (arith, regular i .rate-fits, whole-rate i)
+-- ---- one block more, from c
 
-  length-output : (k : ℕ) (c : Counted) → Wide (instanceOf i .b) (c .bits) → length (output (instanceOf i) k c) ≡ 8 * (k * (instanceOf i .r / 8))
-  unfolding output
-  length-output zero c w = omega arith
-  length-output (suc k) c w =
-      let last = drop (instanceOf i .b - instanceOf i .r) (squeezed (instanceOf i) k c .bits) in
-      length-append (output (instanceOf i) k c) last
-      ∙ omega (arith, length-output k c w, length-last (squeezed (instanceOf i) k c .bits) (wide-squeezed (instanceOf i) (regular i) k c w .0))
+module _ (i : ℕ) (c : Counted) (wide : Wide (instanceOf i .b) (c .bits)) where
+  -- block k: the last r bits after k runs
+  abbrev lastOf : ℕ → List ℕ
+  lastOf k = drop (instanceOf i .b - instanceOf i .r) (squeezed (instanceOf i) k c .bits)
 
-  -- a part of r/8 bytes is written in each turn
-  output-next : (c : Counted) → Wide (instanceOf i .b) (c .bits) → (k at : ℕ) (d buffer : List ℕ) → at ≡ k * (instanceOf i .r / 8)
-      → buffer ≡ bytesOf at (output (instanceOf i) k c) ++ drop at d
-      → paste buffer at (bytesOf (instanceOf i .r / 8) (drop (instanceOf i .b - instanceOf i .r) (squeezed (instanceOf i) k c .bits))) (instanceOf i .r / 8)
-      ≡ bytesOf (at + instanceOf i .r / 8) (output (instanceOf i) (k + 1) c) ++ drop (at + instanceOf i .r / 8) d
+  length-last : (k : ℕ) → length (lastOf k) ≡ 8 * (instanceOf i .r / 8)
+  length-last k =
+      length-drop (instanceOf i .b - instanceOf i .r) (squeezed (instanceOf i) k c .bits)
+      ∙ omega (arith, wide-squeezed (instanceOf i) (regular i) k c wide .0, regular i .rate-fits, whole-rate i)
+
+  length-output : (k : ℕ) → length (output (instanceOf i) k c) ≡ 8 * (k * (instanceOf i .r / 8))
   unfolding output
-  output-next c w k at d buffer e eb =
+  length-output zero = omega arith
+  length-output (suc k) = length-append (output (instanceOf i) k c) (lastOf k) ∙ omega (arith, length-output k, length-last k)
+
+  output-next : (k : ℕ) (d buffer : List ℕ) → let q = instanceOf i .r / 8 in buffer ≡ bytesOf (k * q) (output (instanceOf i) k c) ++ drop (k * q) d
+      → paste buffer (k * q) (bytesOf q (lastOf k)) q ≡ bytesOf ((k + 1) * q) (output (instanceOf i) (k + 1) c) ++ drop ((k + 1) * q) d
+  unfolding output
+  output-next k d buffer e =
       let q = instanceOf i .r / 8 in
       let out = output (instanceOf i) k c in
-      let last = drop (instanceOf i .b - instanceOf i .r) (squeezed (instanceOf i) k c .bits) in
-      ap (λ (l : List ℕ). paste l at (bytesOf q last) q) eb
-      ∙ paste-next (bytesOf at out) (bytesOf q last) d at q (length-bytesOf at out) (length-bytesOf q last)
-      ∙ ap (λ (l : List ℕ). l ++ drop (at + q) d)
-      (sym (bytes-append at q out last (length-output k c w ∙ ap (λ (n : ℕ). 8 * n) (sym e)))
-      ∙ ap (λ (n : ℕ). bytesOf (at + q) (output (instanceOf i) n c)) (sym (add-one k)))
+      ap (λ (l : List ℕ). paste l (k * q) (bytesOf q (lastOf k)) q) e
+      ∙ paste-next (bytesOf (k * q) out) (bytesOf q (lastOf k)) d (k * q) q (length-bytesOf (k * q) out) (length-bytesOf q (lastOf k))
+      ∙ ap (λ (l : List ℕ). l ++ drop (k * q + q) d) (sym (bytes-append (k * q) q out (lastOf k) (length-output k)))
+      ∙ ap₂ (λ (m n : ℕ). bytesOf m (output (instanceOf i) n c) ++ drop m d) (omega (arith, add-mul k 1 q)) (sym (add-one k))
 
--- ---- the states, turn by turn
+-- ---- after k blocks
 
--- the part of the first turn
-first-part : (s : State) → length (s .bits) ≡ 32 → Bytes (s .bits) → (d buffer : List ℕ)
-    → buffer ≡ paste d 0 (lastBytes (s .instance) (s .bits)) (instanceOf (s .instance) .r / 8)
-    → buffer ≡ bytesOf (instanceOf (s .instance) .r / 8) (output (instanceOf (s .instance)) 1 (contentOf s .sponge)) ++ drop (instanceOf (s .instance) .r / 8) buffer
-unfolding output squeezed contentOf
-first-part s n small d buffer e =
-    let q = instanceOf (s .instance) .r / 8 in
-    let last = drop (instanceOf (s .instance) .b - instanceOf (s .instance) .r) (contentOf s .sponge .bits) in
-    let first : buffer ≡ paste d 0 (bytesOf q last) q =
-    e ∙ ap (λ (l : List ℕ). paste d 0 l q) (bytes-last (s .instance) (s .bits) n small) in
-    first ∙ paste-first (bytesOf q last) d q (length-bytesOf q last) ∙ ap (λ (l : List ℕ). bytesOf q last ++ drop q l) (sym first)
-
--- the part of a later turn
-next-part : (s t : State) (c : Counted) → Wide (instanceOf (s .instance) .b) (c .bits) → length (t .bits) ≡ 32 → Bytes (t .bits) → t ≡ withSponge s c
-    → (_≡_ {A = List ℕ} (lastBytes (t .instance) (t .bits)) (bytesOf (instanceOf (s .instance) .r / 8) (drop (instanceOf (s .instance) .b - instanceOf (s .instance) .r) (c .bits))))
-    × (t .instance ≡ s .instance)
-unfolding withSponge stateWith
-next-part s t c w n small e =
-    let i = s .instance in (
-      bytes-last (t .instance) (t .bits) n small
-          ∙ ap (λ (y : State). bytesOf (instanceOf (y .instance) .r / 8) (drop (instanceOf (y .instance) .b - instanceOf (y .instance) .r) (bitsOf (instanceOf (y .instance) .b) (y .bits)))) e
-          ∙ ap (λ (l : List ℕ). bytesOf (instanceOf i .r / 8) (drop (instanceOf i .b - instanceOf i .r) l)) (bits-content i (c .bits) w),
-      ap (λ (y : State). y .instance) e,
-    )
-
--- the state of the next turn
-squeezed-next : (s t : State) (k : ℕ) → t ≡ withSponge s (squeezed (instanceOf (s .instance)) k (contentOf s .sponge))
-    → withSponge t (runP (instanceOf (t .instance)) (contentOf t .sponge)) ≡ withSponge s (squeezed (instanceOf (s .instance)) (suc k) (contentOf s .sponge))
-unfolding squeezed
-squeezed-next s t k e =
-    with-again (λ i c. runP (instanceOf i) c) s t (squeezed (instanceOf (s .instance)) k (contentOf s .sponge))
-    (wide-squeezed (instanceOf (s .instance)) (regular (s .instance)) k (contentOf s .sponge) (wide-content s)) e
-
--- ---- turn by turn
-
--- some parts are out: where the next goes, the state of the last turn, and the buffer, which was d
-pub record Given (s : State) (d buffer : List ℕ) (t : State) (at given : ℕ) : Type 0 where
-  pub some : 1 ≤ given
-  pub at-is : at ≡ given * (instanceOf (s .instance) .r / 8)
-  pub state-is : t ≡ withSponge s (squeezed (instanceOf (s .instance)) (given - 1) (contentOf s .sponge))
-  pub buffer-is : buffer ≡ bytesOf at (output (instanceOf (s .instance)) given (contentOf s .sponge)) ++ drop at d
+-- the state after the last run, and the buffer, which was d
+pub record BlocksOut (s : State) (d buffer : List ℕ) (t : State) (k : ℕ) : Type 0 where
+  pub state-is : t ≡ withSponge s (squeezed (instanceOf (s .instance)) k (contentOf s .sponge))
+  pub buffer-is : buffer
+      ≡ bytesOf (k * (instanceOf (s .instance) .r / 8)) (output (instanceOf (s .instance)) k (runP (instanceOf (s .instance)) (contentOf s .sponge)))
+      ++ drop (k * (instanceOf (s .instance) .r / 8)) d
   pub long : length buffer ≡ length d
 
--- the first turn gives out of the state itself
-pub given-first : (s : State) → length (s .bits) ≡ 32 → Bytes (s .bits) → ZeroPast s → (d buffer : List ℕ)
-    → buffer ≡ paste d 0 (lastBytes (s .instance) (s .bits)) (instanceOf (s .instance) .r / 8)
-    → Given s buffer buffer s (instanceOf (s .instance) .r / 8) 1
-unfolding squeezed withSponge contentOf
-given-first s n small z d buffer e = record {
-  some = omega arith;
-  at-is = omega arith;
+-- none yet
+pub blocks-none : (s : State) → length (s .bits) ≡ 32 → Bytes (s .bits) → ZeroPast s → (d : List ℕ) → BlocksOut s d d s 0
+unfolding squeezed output withSponge contentOf bytesOf tabulate
+blocks-none s n small z d = record {
   state-is = sym (state-with-content s n small z);
-  buffer-is = first-part s n small d buffer e;
+  buffer-is = ap (λ (n : ℕ). bytesOf n [] ++ drop n d) (sym (zero-mul (instanceOf (s .instance) .r / 8)));
   long = refl;
 }
 
-module _ (s : State) (d buffer : List ℕ) (t : State) (at given : ℕ) (g : Given s d buffer t at given) where
-  -- the state of a turn can go through P
-  pub given-ready : (w : ℕ) → Ready s w → Ready t w
-  given-ready w r =
-      let I = instanceOf (s .instance) in
-      ready-with s t w (squeezed I (given - 1) (contentOf s .sponge)) (wide-squeezed I (regular (s .instance)) (given - 1) (contentOf s .sponge) (wide-content s))
-      (g .state-is) r
+module _ (s : State) where
+  abbrev held : ℕ → Content
+  held j = holding (contentOf s) (squeezed (instanceOf (s .instance)) j (contentOf s .sponge))
 
-  pub given-runs : t .runs ≡ s .runs + (given - 1)
+  wide-held : (j : ℕ) → Wide (instanceOf (s .instance) .b) (held j .sponge .bits)
+  wide-held j = wide-squeezed (instanceOf (s .instance)) (regular (s .instance)) j (contentOf s .sponge) (wide-content s)
+
+module _ (s : State) (d buffer : List ℕ) (t : State) (k : ℕ) (g : BlocksOut s d buffer t k) where
+  pub blocks-ready : (w : ℕ) → Ready s w → Ready t w
+  unfolding withSponge
+  blocks-ready w r = ready-content (s .instance) (s .phase) (held s k) (wide-held s k) t (g .state-is) w (r .known) (r .width)
+
+  pub blocks-runs : t .runs ≡ s .runs + k
   unfolding withSponge stateWith contentOf
-  given-runs = ap (λ (y : State). y .runs) (g .state-is) ∙ runs-squeezed (instanceOf (s .instance)) (given - 1) (contentOf s .sponge)
+  blocks-runs = ap (λ (y : State). y .runs) (g .state-is) ∙ runs-squeezed (instanceOf (s .instance)) k (contentOf s .sponge)
 
-  -- before the last turn there is room for a part
-  pub given-room : given < instanceOf (s .instance) .n / instanceOf (s .instance) .r → at + instanceOf (s .instance) .r / 8 ≤ stateBytes (s .instance)
-  unfolding stateBytes
-  given-room h = part-fits given (instanceOf (s .instance) .r / 8) _ _ at (g .at-is) h (whole-output (s .instance))
+  -- all of them: the buffer is full
+  pub blocks-all : length d ≡ k * (instanceOf (s .instance) .r / 8)
+      → buffer ≡ bytesOf (k * (instanceOf (s .instance) .r / 8)) (output (instanceOf (s .instance)) k (runP (instanceOf (s .instance)) (contentOf s .sponge)))
+  blocks-all n =
+      let size = k * (instanceOf (s .instance) .r / 8) in
+      let out = output (instanceOf (s .instance)) k (runP (instanceOf (s .instance)) (contentOf s .sponge)) in
+      let full : length d ≤ size = omega arith in
+      g .buffer-is ∙ ap (λ (l : List ℕ). bytesOf size out ++ l) (drop-of-length-le d full) ∙ append-nil (bytesOf size out)
 
-  -- after the last turn all is out
-  pub given-all : given ≡ instanceOf (s .instance) .n / instanceOf (s .instance) .r → length d ≡ stateBytes (s .instance)
-      → (t ≡ withSponge s (squeezed (instanceOf (s .instance)) (instanceOf (s .instance) .n / instanceOf (s .instance) .r - 1) (contentOf s .sponge)))
-      × (buffer ≡ bytesOf (stateBytes (s .instance)) (output (instanceOf (s .instance)) (instanceOf (s .instance) .n / instanceOf (s .instance) .r) (contentOf s .sponge)))
-  unfolding stateBytes
-  given-all turns n =
-      let I = instanceOf (s .instance) in
-      let end : at ≡ I .b / 8 = g .at-is ∙ ap (λ (k : ℕ). k * (I .r / 8)) turns ∙ whole-output (s .instance) in
-      let full : length d ≤ at = omega arith in (
-        g .state-is ∙ ap (λ (k : ℕ). withSponge s (squeezed I (k - 1) (contentOf s .sponge))) turns,
-        g .buffer-is
-            ∙ ap (λ (l : List ℕ). bytesOf at (output I given (contentOf s .sponge)) ++ l) (drop-of-length-le d full)
-            ∙ append-nil (bytesOf at (output I given (contentOf s .sponge)))
-            ∙ ap₂ (λ (m k : ℕ). bytesOf m (output I k (contentOf s .sponge))) end turns,
-      )
-
-  -- one more turn, from P's state u
+  -- one block more, from the state u after P
   module _ (u : State) (e : u ≡ withSponge t (runP (instanceOf (t .instance)) (contentOf t .sponge))) where
-    turn-state : u ≡ withSponge s (squeezed (instanceOf (s .instance)) given (contentOf s .sponge))
-    turn-state =
-        let same : suc (given - 1) ≡ given = omega (arith, g .some) in
+    after-run : u ≡ stateWith (s .instance) (s .phase) (held s (suc k))
+    unfolding withSponge squeezed contentOf
+    after-run =
         e
-        ∙ squeezed-next s t (given - 1) (g .state-is)
-        ∙ ap (λ (k : ℕ). withSponge s (squeezed (instanceOf (s .instance)) k (contentOf s .sponge))) same
+        ∙ of-content (s .instance) (s .phase) (held s k) (wide-held s k) t (g .state-is)
+        (λ i p h. stateWith i p (holding h (runP (instanceOf i) (h .sponge))))
 
-    pub turn-instance : u .instance ≡ s .instance
-    unfolding withSponge stateWith
-    turn-instance = ap (λ (y : State). y .instance) turn-state
+    pub run-instance : u .instance ≡ s .instance
+    unfolding stateWith
+    run-instance = ap (λ (y : State). y .instance) after-run
 
-    pub given-next : length (u .bits) ≡ 32 → Bytes (u .bits) → (next : List ℕ)
-        → next ≡ paste buffer at (lastBytes (u .instance) (u .bits)) (instanceOf (u .instance) .r / 8) → length next ≡ length buffer
-        → Given s d next u (at + instanceOf (s .instance) .r / 8) (given + 1)
-    given-next n small next en long =
+    pub blocks-next : length (u .bits) ≡ 32 → Bytes (u .bits) → (next : List ℕ)
+        → next ≡ paste buffer (k * (instanceOf (s .instance) .r / 8)) (lastBytes (u .instance) (u .bits)) (instanceOf (u .instance) .r / 8)
+        → length next ≡ length buffer
+        → BlocksOut s d next u (k + 1)
+    unfolding withSponge contentOf runP squeezed
+    blocks-next n small next en long =
         let I = instanceOf (s .instance) in
-        let wide = wide-squeezed I (regular (s .instance)) given (contentOf s .sponge) (wide-content s) in
-        let part = next-part s u (squeezed I given (contentOf s .sponge)) wide n small turn-state in
-        let same : given ≡ given + 1 - 1 = omega arith in
+        let q = I .r / 8 in
+        let c = contentOf s .sponge in
+        let wide : Wide (I .b) (runP I c .bits) = wide-held s 1 in
+        let last : lastBytes (u .instance) (u .bits) ≡ bytesOf q (drop (I .b - I .r) (squeezed I k (runP I c) .bits)) =
+        bytes-last (u .instance) (u .bits) n small
+        ∙ of-content (s .instance) (s .phase) (held s (suc k)) (wide-held s (suc k)) u after-run
+        (λ i p h. bytesOf (instanceOf i .r / 8) (drop (instanceOf i .b - instanceOf i .r) (h .sponge .bits)))
+        ∙ ap (λ (x : Counted). bytesOf q (drop (I .b - I .r) (x .bits))) (sym (squeezed-run I k c)) in
         record {
-          some = omega arith;
-          at-is = omega (arith, g .at-is, add-mul given 1 (I .r / 8));
-          state-is = turn-state ∙ ap (λ (k : ℕ). withSponge s (squeezed I k (contentOf s .sponge))) same;
+          state-is = after-run ∙ ap (λ (j : ℕ). stateWith (s .instance) (s .phase) (held s j)) (sym (add-one k));
           buffer-is = en
-              ∙ ap₂ (λ (l : List ℕ) (j : ℕ). paste buffer at l (instanceOf j .r / 8)) (part .0) (part .1)
-              ∙ output-next (s .instance) (contentOf s .sponge) (wide-content s) given at d buffer (g .at-is) (g .buffer-is);
+              ∙ ap₂ (λ (l : List ℕ) (i : ℕ). paste buffer (k * q) l (instanceOf i .r / 8)) last run-instance
+              ∙ output-next (s .instance) (runP I c) wide k d buffer (g .buffer-is);
           long = long ∙ g .long;
         }

@@ -1,27 +1,26 @@
 -- A state's 32 bytes and its b bits: they determine each other where every byte from b/8 on is zero; and what the code does to the bytes
--- is what the definition does to the bits. Assumes nothing.
-use mathlib.Core.Bool.{Bool, true, false, _&&_, true≢false}
-use mathlib.Core.List.{List, [], _∷_, _++_, append-nil, append-assoc}
+-- is what the definition does to the bits.
+use mathlib.Core.Bool.{true, and-eq-true-iff}
+use mathlib.Core.List.{List, [], _∷_, _++_, append-nil}
 use mathlib.Core.Path.{_≡_, refl, sym, ap, ap₂, _∙_, subst}
 use Prim.Native.Nat.{ℕ, zero, suc, _+_, _*_, _-_, _/_, _%_, _^_, _<_, _≤_}
-use native.Mathlib.Nat.{add-zero, add-suc, add-assoc, mod-add-mod, mod-mod, mul-div-cancel, mod-eq-of-lt, div-eq-of-lt, mul-assoc, pow-suc, mul-le-mul, mul-le-mul-right, min-le-left}
+use native.Mathlib.Nat.{add-zero, add-assoc, mod-add-mod, mod-mod, mul-div-cancel, mod-eq-of-lt, div-eq-of-lt, mul-assoc, pow-suc, mul-le-mul, mul-le-mul-right, min-le-left}
 use native.Mathlib.Decide.{decLt, ℕ-discrete}
 use native.Mathlib.Omega.{arith}
-use borrow.Author.Tests.{eqb-true}
+use borrow.Author.Tests.{eqb-true, eq-eqb}
 use lib.Bits.{bitXor, xor-lt}
 use lib.Dec.{eqb}
-use lib.ListN.{length, getD, set, take, drop, replicate, length-drop, length-take, length-set, take-append-drop, List·getD-append, List·getD-eq-default, length-replicate}
+use lib.ListN.{length, getD, set, take, drop, replicate, length-drop, length-take, length-set, take-append-drop, List·getD-eq-default, length-replicate}
 use lib.Pow.{pow-pos, pow-mono, pow-lt, pow-add}
-use lib.Seq.{ext-getD, length-take-le, getD-take, getD-drop, getD-append-add, getD-set-same, getD-set-other, drop-set-lt}
-use Rattle.quark.specs.Bytes.{bit, tabulate, bitAt, bitsOf, byteAt, bytesOf}
-use Rattle.quark.specs.Instance.{U, D, S, instanceOf}
+use lib.Seq.{ext-getD, length-take-le, getD-take, getD-drop, getD-set-same, getD-set-other, drop-set-lt}
+use Rattle.quark.specs.Bytes.{bit, bitAt, bitsOf, bytesOf}
+use Rattle.quark.specs.Instance.{U, D, S, instanceOf, stateBytes}
 use Rattle.quark.specs.Step.{P}
 use Rattle.quark.specs.Word.{wordBit}
 use Rattle.quark.proofs.Bits.{Wide}
-use Rattle.quark.proofs.Bytes.{tabulate-cong, wide-bitsOf, getD-bitsOf, length-bytesOf, bytes-of-bits, byte-past, getD-bytesOf}
-use Rattle.quark.proofs.Instance.{of-each, regular, P-wide}
+use Rattle.quark.proofs.Bytes.{bytes-append, tabulate-cong, wide-bitsOf, getD-bitsOf, length-bytesOf, bits-of-bytes, bytes-of-bits, byte-past, getD-bytesOf}
+use Rattle.quark.proofs.Instance.{in-bytes, of-each, regular, P-wide}
 use Rattle.quark.proofs.Word.{wordBit-xor}
-use Rattle.permutation.specs.Lines.{stateBytes}
 use Rattle.permutation.specs.Permute.{onBytes}
 use Rattle.sponge.specs.Soundness.{allZero}
 use Rattle.sponge.specs.leaf.Ready.{lastBytes}
@@ -35,7 +34,12 @@ pub whole-rate : (i : ℕ) → instanceOf i .r ≡ 8 * (instanceOf i .r / 8)
 unfolding U D S
 whole-rate = of-each (λ I. I .r ≡ 8 * (I .r / 8)) refl refl refl
 
--- a digest is given out in few turns
+-- so is what stands before the last
+pub whole-front : (i : ℕ) → 8 * ((instanceOf i .b - instanceOf i .r) / 8) ≡ instanceOf i .b - instanceOf i .r
+unfolding U D S
+whole-front = of-each (λ I. 8 * ((I .b - I .r) / 8) ≡ I .b - I .r) refl refl refl
+
+-- a digest has at most 17 blocks
 pub outputs-small : (i : ℕ) → instanceOf i .n / instanceOf i .r ≤ 17
 unfolding U D S
 outputs-small = of-each (λ I. I .n / I .r ≤ 17) (omega arith) (omega arith) (omega arith)
@@ -45,55 +49,7 @@ pub padded-remainder : (t r z : ℕ) → (t % r + 1 + z) % r ≡ (t + 1 + z) % r
 padded-remainder t r z =
     ap (λ (n : ℕ). n % r) (add-assoc (t % r) 1 z) ∙ mod-add-mod t r (1 + z) ∙ ap (λ (n : ℕ). n % r) (sym (add-assoc t 1 z))
 
--- ---- tables and bytes, one behind the other
-
-tabulate-append : (k m : ℕ) (F : ℕ → ℕ) → tabulate (k + m) F ≡ tabulate k F ++ tabulate m (λ j. F (k + j))
-unfolding tabulate
-tabulate-append k zero F = ap (λ (n : ℕ). tabulate n F) (add-zero k) ∙ sym (append-nil (tabulate k F))
-tabulate-append k (suc m) F =
-    ap (λ (n : ℕ). tabulate n F) (add-suc k m)
-    ∙ ap (λ (l : List ℕ). l ++ (F (k + m) ∷ [])) (tabulate-append k m F)
-    ∙ append-assoc (tabulate k F) (tabulate m (λ j. F (k + j))) (F (k + m) ∷ [])
-
-byte-front : (x y : List ℕ) (j : ℕ) → 8 * j + 8 ≤ length x → byteAt (x ++ y) j ≡ byteAt x j
-unfolding byteAt
-byte-front x y j h =
-    let at : (n : ℕ) → n < length x → getD (x ++ y) n 0 ≡ getD x n 0 = λ n g. List·getD-append x y 0 n g in
-    cc (
-      at (8 * j) (omega arith),
-      at (8 * j + 1) (omega arith),
-      at (8 * j + 2) (omega arith),
-      at (8 * j + 3) (omega arith),
-      at (8 * j + 4) (omega arith),
-      at (8 * j + 5) (omega arith),
-      at (8 * j + 6) (omega arith),
-      at (8 * j + 7) (omega arith),
-    )
-
-byte-behind : (x y : List ℕ) (m j : ℕ) → length x ≡ 8 * m → byteAt (x ++ y) (m + j) ≡ byteAt y j
-unfolding byteAt
-byte-behind x y m j h =
-    let at : (n k : ℕ) → n ≡ 8 * m + k → getD (x ++ y) n 0 ≡ getD y k 0 =
-    λ n k e. ap (λ (a : ℕ). getD (x ++ y) a 0) (e ∙ ap (λ (a : ℕ). a + k) (sym h)) ∙ getD-append-add x y k 0 in
-    cc (
-      at (8 * (m + j)) (8 * j) (omega arith),
-      at (8 * (m + j) + 1) (8 * j + 1) (omega arith),
-      at (8 * (m + j) + 2) (8 * j + 2) (omega arith),
-      at (8 * (m + j) + 3) (8 * j + 3) (omega arith),
-      at (8 * (m + j) + 4) (8 * j + 4) (omega arith),
-      at (8 * (m + j) + 5) (8 * j + 5) (omega arith),
-      at (8 * (m + j) + 6) (8 * j + 6) (omega arith),
-      at (8 * (m + j) + 7) (8 * j + 7) (omega arith),
-    )
-
--- the bytes of bits, one list behind the other
-pub bytes-append : (m q : ℕ) (x y : List ℕ) → length x ≡ 8 * m → bytesOf (m + q) (x ++ y) ≡ bytesOf m x ++ bytesOf q y
-unfolding bytesOf
-bytes-append m q x y h =
-    tabulate-append m q (byteAt (x ++ y))
-    ∙ ap₂ (λ (a b : List ℕ). a ++ b)
-    (tabulate-cong m (byteAt (x ++ y)) (byteAt x) (λ j g. byte-front x y j (omega arith)))
-    (tabulate-cong q (λ j. byteAt (x ++ y) (m + j)) (byteAt y) (λ j g. byte-behind x y m j h))
+-- ---- no bits
 
 bytes-none : (m : ℕ) → _≡_ {A = List ℕ} (bytesOf m []) (replicate m 0)
 bytes-none m =
@@ -149,7 +105,7 @@ other-bit x k u h ne = elim (decLt u k) [ yes l ↦ above (k - u - 1) (omega ari
         let less : x * 2 ^ k < 2 ^ u = omega (arith, pow-lt l) in
         ap (λ (z : ℕ). z % 2) (div-eq-of-lt less)
 
--- bytes with a bit added at a place
+-- bytes with a bit added at an index
 abbrev pub flipped : List ℕ → (at x : ℕ) → List ℕ
 flipped l at x = set l (at / 8) (bitXor (getD l (at / 8) 0) (x * 2 ^ (7 - at % 8)))
 
@@ -185,7 +141,7 @@ module _ (l : List ℕ) (at x : ℕ) (within : at / 8 < length l) (single : x < 
           ∙ mod-mod (byte / 2 ^ u) 2
           ∙ ap (λ (z : ℕ). getD l z 0 / 2 ^ u % 2) (sym e)
 
-  -- the bits are the same but the one at the place
+  -- the bits are the same but the one at the index
   bits-flipped : (n : ℕ) → at < n → bitsOf n (flipped l at x) ≡ set (bitsOf n l) at ((bit (bitsOf n l) at + x) % 2)
   bits-flipped n h =
       let s = bitsOf n l in
@@ -216,28 +172,46 @@ module _ (l : List ℕ) (at x : ℕ) (within : at / 8 < length l) (single : x < 
         | no d ↦ rw (getD-set-other l (at / 8) j (bitXor (getD l (at / 8) 0) (x * 2 ^ (7 - at % 8))) 0 d) (small j)
       ]
 
--- ---- zeros behind b/8 bytes
+-- ---- zeros after b/8 bytes
 
 zeros-of : (l : List ℕ) → allZero l ≡ true → l ≡ replicate (length l) 0
 unfolding allZero
 zeros-of [] e = refl
 zeros-of (x ∷ l) e =
-    let both = and-true (eqb x 0) (allZero l) e in
+    let both = and-eq-true-iff (eqb x 0) (allZero l) .0 e in
     ap₂ (λ (a : ℕ) (m : List ℕ). a ∷ m) (eqb-true x 0 (both .0)) (zeros-of l (both .1))
-  where
-    and-true : (a b : Bool) → (a && b) ≡ true → (a ≡ true) × (b ≡ true)
-    and-true true b e = (refl, e)
-    and-true false b e = absurd (true≢false (sym e))
+
+all-zero : (l : List ℕ) → ((j : ℕ) → getD l j 0 ≡ 0) → allZero l ≡ true
+unfolding allZero
+all-zero [] h = refl
+all-zero (x ∷ l) h = rw (eq-eqb x 0 (h 0)) (all-zero l (λ j. h (suc j)))
 
 module _ (i : ℕ) where
+  -- b bits in 32 bytes, and out of them
+  pub bits-content : (s : List ℕ) → Wide (instanceOf i .b) s → bitsOf (instanceOf i .b) (bytesOf 32 s) ≡ s
+  bits-content s w = bits-of-bytes (instanceOf i .b) 32 s (in-bytes i .at-most-256) w
+
+  -- the bytes after b bits are zero
+  pub zero-past : (s : List ℕ) → Wide (instanceOf i .b) s → allZero (drop (instanceOf i .b / 8) (bytesOf 32 s)) ≡ true
+  zero-past s w =
+      all-zero (drop (instanceOf i .b / 8) (bytesOf 32 s))
+      (λ j. getD-drop (instanceOf i .b / 8) (bytesOf 32 s) j 0 ∙ past (instanceOf i .b / 8 + j) (omega arith))
+    where
+      past : (k : ℕ) → instanceOf i .b / 8 ≤ k → getD (bytesOf 32 s) k 0 ≡ 0
+      past k h =
+          elim (decLt k 32) [
+            | yes g ↦ getD-bytesOf 32 s k g ∙ byte-past s k (omega (arith, w .0, in-bytes i .whole-bytes))
+            | no g ↦ List·getD-eq-default (bytesOf 32 s) 0 {n = k} (omega (arith, length-bytesOf 32 s))
+          ]
+
   -- b bits in 32 bytes: b/8 bytes, then zeros
   pub bytes-wide : (s : List ℕ) → Wide (instanceOf i .b) s
       → bytesOf 32 s ≡ bytesOf (instanceOf i .b / 8) s ++ replicate (32 - instanceOf i .b / 8) 0
   bytes-wide s w =
       let k = instanceOf i .b / 8 in
-      let n : 32 ≡ k + (32 - k) = omega (arith, regular i .whole-bytes, regular i .at-most-256) in
+      let n : 32 ≡ k + (32 - k) = omega (arith, in-bytes i .whole-bytes, in-bytes i .at-most-256) in
       ap₂ bytesOf n (sym (append-nil s))
-      ∙ bytes-append k (32 - k) s [] (w .0 ∙ regular i .whole-bytes)
+      ∙ bytes-append k (32 - k) s [] (w .0 ∙ in-bytes i .whole-bytes)
       ∙ ap (λ (l : List ℕ). bytesOf k s ++ l) (bytes-none (32 - k))
 
   -- b/8 bytes, and bits of the first b/8 bytes alone
@@ -245,7 +219,7 @@ module _ (i : ℕ) where
   unfolding bitsOf bitAt
   bits-front l =
       tabulate-cong (instanceOf i .b) (bitAt (take (instanceOf i .b / 8) l)) (bitAt l)
-      (λ j h. ap (λ (x : ℕ). x / 2 ^ (7 - j % 8) % 2) (getD-take (instanceOf i .b / 8) l (j / 8) 0 (omega (arith, regular i .whole-bytes))))
+      (λ j h. ap (λ (x : ℕ). x / 2 ^ (7 - j % 8) % 2) (getD-take (instanceOf i .b / 8) l (j / 8) 0 (omega (arith, in-bytes i .whole-bytes))))
 
   -- bytes that are zero from b/8 on come back from their b bits
   pub bytes-content : (l : List ℕ) → length l ≡ 32 → Bytes l → allZero (drop (instanceOf i .b / 8) l) ≡ true → bytesOf 32 (bitsOf (instanceOf i .b) l) ≡ l
@@ -253,35 +227,35 @@ module _ (i : ℕ) where
       let k = instanceOf i .b / 8 in
       let s = bitsOf (instanceOf i .b) l in
       let n : length (drop k l) ≡ 32 - k = length-drop k l ∙ ap (λ (m : ℕ). m - k) size in
-      let m : length (take k l) ≡ k = length-take-le k l (omega (arith, regular i .at-most-256)) in
+      let m : length (take k l) ≡ k = length-take-le k l (omega (arith, in-bytes i .at-most-256)) in
       bytes-wide s (wide-bitsOf (instanceOf i .b) l)
       ∙ ap₂ (λ (x y : List ℕ). x ++ y)
-      (ap (bytesOf k) (sym (bits-front l) ∙ ap (λ (j : ℕ). bitsOf j (take k l)) (regular i .whole-bytes))
+      (ap (bytesOf k) (sym (bits-front l) ∙ ap (λ (j : ℕ). bitsOf j (take k l)) (in-bytes i .whole-bytes))
       ∙ bytes-of-bits k (take k l) m (bytes-take k l small))
       (sym (zeros-of (drop k l) z ∙ ap (λ (j : ℕ). replicate j 0) n))
       ∙ take-append-drop k l
 
   -- the last r bits stand in the last r/8 bytes
-  last-bits : (l : List ℕ) → bitsOf (8 * (instanceOf i .r / 8)) (take (instanceOf i .r / 8) (drop (instanceOf i .b / 8 - instanceOf i .r / 8) l))
+  last-bits : (l : List ℕ) → bitsOf (8 * (instanceOf i .r / 8)) (take (instanceOf i .r / 8) (drop ((instanceOf i .b - instanceOf i .r) / 8) l))
       ≡ drop (instanceOf i .b - instanceOf i .r) (bitsOf (instanceOf i .b) l)
   unfolding bitAt
   last-bits l =
       let b = instanceOf i .b in
       let r = instanceOf i .r in
       let q = r / 8 in
-      let from = b / 8 - q in
+      let from = (b - r) / 8 in
       let part = take q (drop from l) in
       let long = wide-bitsOf (8 * q) part .0 in
       ext-getD 0 (bitsOf (8 * q) part) (drop (b - r) (bitsOf b l))
       (long ∙ sym (length-drop (b - r) (bitsOf b l) ∙ ap (λ (n : ℕ). n - (b - r)) (wide-bitsOf b l .0) ∙ omega (arith, whole-rate i, regular i .rate-fits)))
       (λ j g. let h : j < 8 * q = subst (λ (k : ℕ). j < k) long g in
-      let place : b - r + j < b = omega (arith, whole-rate i, regular i .rate-fits) in
-      let byte : (b - r + j) / 8 ≡ from + j / 8 = omega (arith, whole-rate i, regular i .rate-fits, regular i .whole-bytes) in
-      let weight : (b - r + j) % 8 ≡ j % 8 = omega (arith, whole-rate i, regular i .rate-fits, regular i .whole-bytes) in
+      let within : b - r + j < b = omega (arith, whole-rate i, regular i .rate-fits) in
+      let byte : (b - r + j) / 8 ≡ from + j / 8 = omega (arith, whole-rate i, regular i .rate-fits, in-bytes i .whole-bytes) in
+      let weight : (b - r + j) % 8 ≡ j % 8 = omega (arith, whole-rate i, regular i .rate-fits, in-bytes i .whole-bytes) in
       getD-bitsOf (8 * q) part j h
       ∙ ap (λ (x : ℕ). x / 2 ^ (7 - j % 8) % 2) (getD-take q (drop from l) (j / 8) 0 (omega arith) ∙ getD-drop from l (j / 8) 0)
       ∙ sym (ap₂ (λ (x y : ℕ). getD l x 0 / 2 ^ (7 - y) % 2) byte weight)
-      ∙ sym (getD-drop (b - r) (bitsOf b l) j 0 ∙ getD-bitsOf b l (b - r + j) place))
+      ∙ sym (getD-drop (b - r) (bitsOf b l) j 0 ∙ getD-bitsOf b l (b - r + j) within))
 
   module _ (l : List ℕ) (size : length l ≡ 32) where
     -- P on the first b/8 bytes is P on the b bits
@@ -303,23 +277,31 @@ module _ (i : ℕ) where
     bytes-added small z at x h single =
         let l′ = flipped l at x in
         let v = bitXor (getD l (at / 8) 0) (x * 2 ^ (7 - at % 8)) in
-        let within : at / 8 < length l = omega (arith, regular i .at-most-256) in
+        let within : at / 8 < length l = omega (arith, in-bytes i .at-most-256) in
         let kept : drop (instanceOf i .b / 8) l′ ≡ drop (instanceOf i .b / 8) l =
-        drop-set-lt (instanceOf i .b / 8) l (at / 8) v (omega (arith, regular i .whole-bytes)) in
+        drop-set-lt (instanceOf i .b / 8) l (at / 8) v (omega (arith, in-bytes i .whole-bytes)) in
         sym (bytes-content l′ (length-set l (at / 8) v ∙ size) (bytes-flipped l at x within single small) (ap allZero kept ∙ z))
         ∙ ap (bytesOf 32) (bits-flipped l at x within single (instanceOf i .b) h)
+
+    -- the part for the output, by the numbers that the code finds
+    pub last-part : (from step : ℕ) → from ≡ (instanceOf i .b - instanceOf i .r) / 8 → step ≡ instanceOf i .r / 8
+        → take (from + step - from) (drop from l) ≡ lastBytes i l
+    unfolding lastBytes
+    last-part from step ef es =
+        let long : from + step - from ≡ instanceOf i .r / 8 = omega arith in
+        ap₂ (λ (m k : ℕ). take m (drop k l)) long ef
 
     pub last-size : length (lastBytes i l) ≡ instanceOf i .r / 8
     unfolding lastBytes
     last-size =
-        length-take-le (instanceOf i .r / 8) (drop (instanceOf i .b / 8 - instanceOf i .r / 8) l)
-        (rw length-drop (omega (arith, regular i .rate-fits, regular i .at-most-256, regular i .whole-bytes)))
+        length-take-le (instanceOf i .r / 8) (drop ((instanceOf i .b - instanceOf i .r) / 8) l)
+        (rw length-drop (omega (arith, regular i .rate-fits, in-bytes i .at-most-256, in-bytes i .whole-bytes)))
 
     -- the part for the output holds the last r bits
     pub bytes-last : Bytes l → lastBytes i l ≡ bytesOf (instanceOf i .r / 8) (drop (instanceOf i .b - instanceOf i .r) (bitsOf (instanceOf i .b) l))
     unfolding lastBytes bitAt
     bytes-last small =
         let q = instanceOf i .r / 8 in
-        let from = instanceOf i .b / 8 - q in
+        let from = (instanceOf i .b - instanceOf i .r) / 8 in
         let part = take q (drop from l) in
         sym (bytes-of-bits q part last-size (bytes-take q (drop from l) (bytes-drop from l small))) ∙ ap (bytesOf q) (last-bits l)

@@ -1,8 +1,8 @@
 -- Taking bits one by one, as the operations work, gives the definition's block-wise sponge, for every message and every cut into pieces;
--- and finishing gives its closed state and its digest. For any regular instance. Assumes nothing.
+-- and finishing gives its closed state and its digest. For any regular instance.
 use mathlib.Core.Bool.{Bool, cond}
 use mathlib.Core.List.{List, [], _∷_, _++_, append-assoc, append-nil}
-use mathlib.Core.Path.{_≡_, refl, sym, ap, ap₂, _∙_}
+use mathlib.Core.Path.{_≡_, sym, ap, ap₂, _∙_}
 use Prim.Native.Nat.{ℕ, suc, _+_, _*_, _-_, _/_, _%_, _≤_, _<_}
 use native.Mathlib.Nat.{mod-lt, div-add-mod', suc-ne-zero, mul-add-div-right, mul-add-mod-self-right, div-eq-of-lt, mod-eq-of-lt, add-zero}
 use native.Mathlib.Decide.{ℕ-discrete}
@@ -17,13 +17,7 @@ use Rattle.quark.proofs.Instance.{Regular}
 use Rattle.quark.proofs.Padding.{block-count}
 use Rattle.quark.proofs.Sums.{addFrom, addAt, addFrom-nil, addFrom-zeros, addFrom-snoc}
 use Rattle.quark.proofs.Blocks.{block-rest, block-past, before-append, wide-before}
-use Rattle.sponge.specs.Taking.{Content, place, addBit, takeBit, takeBits, afterPadding, given, finished}
-
-pub counted-path : {s s′ : List ℕ} {k k′ : ℕ} → s ≡ s′ → k ≡ k′ → _≡_ {A = Counted} (record { bits = s; runs = k }) (record { bits = s′; runs = k′ })
-counted-path e f i = record { bits = e i; runs = f i }
-
-pub content-path : {t t′ : ℕ} {s s′ : Counted} → t ≡ t′ → s ≡ s′ → _≡_ {A = Content} (record { total = t; sponge = s }) (record { total = t′; sponge = s′ })
-content-path e f i = record { total = e i; sponge = f i }
+use Rattle.sponge.specs.Taking.{Content, holding, bitIndex, addBit, takeBit, takeBits, afterPadding, finishOutput, finished}
 
 -- quotient and remainder by what makes them up
 pub divided : (r q k n : ℕ) → k < r → n ≡ q * r + k → (n / r ≡ q) × (n % r ≡ k)
@@ -43,7 +37,7 @@ module _ (I : Instance) (R : Regular I) where
   -- adding nothing
   pub absorb-nil : (s : Counted) → absorb I s [] ≡ s
   unfolding absorb addLast
-  absorb-nil s = counted-path (addFrom-nil (I .b - I .r) (s .bits)) refl
+  absorb-nil s = ap (λ (l : List ℕ). record { bits = l; runs = s .runs }) (addFrom-nil (I .b - I .r) (s .bits))
 
   module _ (m : List ℕ) where
     whole-part : length m / I .r * I .r + length m % I .r ≡ length m
@@ -59,11 +53,11 @@ module _ (I : Instance) (R : Regular I) where
         ∙ length-drop (length m / I .r * I .r) m
         ∙ omega (arith, whole-part)
 
-    -- a bit behind the message, with zeros behind it, goes into the block that the message has begun
+    -- a bit after the message, with zeros after it, goes into the block that the message has begun
     add-next : (x z : ℕ) → length m % I .r + suc z ≤ I .r
-        → addBit I (place I (length m)) x (absorbing I m)
+        → addBit I (bitIndex I (length m)) x (absorbing I m)
         ≡ absorb I (before I (m ++ (x ∷ replicate z 0)) (length m / I .r)) (block I (m ++ (x ∷ replicate z 0)) (length m / I .r))
-    unfolding addBit place absorbing absorb addLast
+    unfolding addBit bitIndex absorbing absorb addLast
     add-next x z h =
         let k = I .b - I .r in
         let s = before I m (length m / I .r) in
@@ -78,7 +72,7 @@ module _ (I : Instance) (R : Regular I) where
         ∙ addFrom-snoc k (s .bits) u x (omega (arith, length-rest, part-lt, w .0, R .rate-fits))
         ∙ sym (addFrom-zeros k (s .bits) (u ++ (x ∷ [])) z (w .1))
         ∙ ap (addFrom k (s .bits)) (append-assoc u (x ∷ []) (replicate z 0)) in
-        counted-path bits refl ∙ sym (ap₂ (absorb I) same-before same-block)
+        ap (λ (a : List ℕ). record { bits = a; runs = s .runs }) bits ∙ sym (ap₂ (absorb I) same-before same-block)
 
     length-snoc : (x : ℕ) → length (m ++ (x ∷ [])) ≡ length m + 1
     length-snoc x = length-append m (x ∷ [])
@@ -90,8 +84,8 @@ module _ (I : Instance) (R : Regular I) where
         let l = m ++ (x ∷ []) in
         let d = divided (I .r) (suc (length m / I .r)) 0 (length m + 1) (R .some-rate) (omega (arith, whole-part)) in
         let full : length l / I .r ≡ suc (length m / I .r) = ap (λ (k : ℕ). k / I .r) (length-snoc x) ∙ d .0 in
-        let added = addBit I (place I (length m)) x (absorbing I m) in
-        content-path (sym (length-snoc x))
+        let added = addBit I (bitIndex I (length m)) x (absorbing I m) in
+        ap₂ (λ (n : ℕ) (c : Counted). record { total = n; sponge = c }) (sym (length-snoc x))
         (ap (λ (t : Bool). cond t (runP I added) added) (eq-eqb ((length m + 1) % I .r) 0 (d .1))
         ∙ ap (runP I) (add-next x 0 (omega (arith, part-lt)))
         ∙ sym (absorb-nil (before I l (suc (length m / I .r))))
@@ -106,8 +100,8 @@ module _ (I : Instance) (R : Regular I) where
         let l = m ++ (x ∷ []) in
         let d = divided (I .r) (length m / I .r) (suc (length m % I .r)) (length m + 1) h (omega (arith, whole-part)) in
         let same : length l / I .r ≡ length m / I .r = ap (λ (k : ℕ). k / I .r) (length-snoc x) ∙ d .0 in
-        let added = addBit I (place I (length m)) x (absorbing I m) in
-        content-path (sym (length-snoc x))
+        let added = addBit I (bitIndex I (length m)) x (absorbing I m) in
+        ap₂ (λ (n : ℕ) (c : Counted). record { total = n; sponge = c }) (sym (length-snoc x))
         (ap (λ (t : Bool). cond t (runP I added) added) (ne-eqb ((length m + 1) % I .r) 0 (λ z. suc-ne-zero (length m % I .r) (sym (d .1) ∙ z)))
         ∙ add-next x 0 (omega (arith, h))
         ∙ ap (λ (k : ℕ). absorb I (before I l k) (block I l k)) (sym same))
@@ -124,10 +118,10 @@ module _ (I : Instance) (R : Regular I) where
 
     pub finish-closed : finished I (openContent I m) ≡ closedContent I m
     unfolding finished openContent closedContent closed
-    finish-closed = content-path refl (ap (squeezed I (I .n / I .r - 1)) pad-absorbed)
+    finish-closed = ap (λ (c : Counted). holding (openContent I m) (squeezed I (I .n / I .r - 1) c)) pad-absorbed
 
-    pub finish-digest : given I (openContent I m) ≡ digest I m
-    unfolding given digest
+    pub finish-digest : finishOutput I (openContent I m) ≡ digest I m
+    unfolding finishOutput digest
     finish-digest = ap (output I (I .n / I .r)) pad-absorbed
 
   -- the bits of a piece, one after the other

@@ -1,12 +1,15 @@
--- Lists of piece and finish calls, and a list's message (document 01, "Pieces and finish"; demand 3). Assumes nothing.
-use mathlib.Core.Bool.{cond, _||_}
+-- Lists of piece and finish calls, and a list's message (document 01, "Pieces and finish"; demand 3).
+use mathlib.Core.Bool.{Bool, true, false, cond}
 use mathlib.Core.List.{List, [], _∷_, _++_}
 use Prim.Native.Nat.{ℕ}
+use lib.Dec.{eqb}
 use lib.ListN.{length}
+use Rattle.refusals.specs.Lines.{firstLine, line5}
 use Rattle.quark.specs.Bytes.{bitsOf}
-use Rattle.permutation.specs.Lines.{line4, line5}
+use Rattle.quark.specs.Instance.{stateBytes}
+use Rattle.permutation.specs.Lines.{line4}
 use Rattle.sponge.specs.declared.State.{State}
-use Rattle.sponge.specs.Outcomes.{line6, line7, initResult, absorbResult, finishResult}
+use Rattle.sponge.specs.Outcomes.{line6, line7, initResult, absorbNumber, absorbResult, finishNumber, finishResult}
 
 -- a call's arguments but the state: a piece's bytes as they are when the call is made, its bit count and its step width; a finish's step
 -- width and the length of its buffer
@@ -14,7 +17,14 @@ pub data Call : Type 0 where
   piece : (bytes : List ℕ) (count width : ℕ) → Call
   finish : (width buffer : ℕ) → Call
 
--- the state that a call hands back: that of `absorb`, and of `finish`
+-- ---- a call on a state, as `absorb` and `finish` answer it
+
+-- the number of the line that refuses it, 0 where it is accepted
+unfoldable pub stateNumber : State → Call → ℕ
+stateNumber s (piece bytes count width) = absorbNumber s width (length bytes) count
+stateNumber s (finish width buffer) = finishNumber s width buffer
+
+-- the state that it hands back
 unfoldable pub after : State → Call → State
 after s (piece bytes count width) = absorbResult s width bytes count .state
 after s (finish width buffer) = finishResult s width buffer .state
@@ -28,25 +38,35 @@ runFrom s (call ∷ calls) = runFrom (after s call) calls
 unfoldable pub run : ℕ → List Call → State
 run i calls = runFrom (initResult i .state) calls
 
--- document 01's message of a list: its bits, open or closed
-pub data Message : Type 0 where
-  opened : List ℕ → Message
-  closed : List ℕ → Message
+-- ---- document 01's message of a list, from the calls' arguments alone
 
--- a message after one more call, from the call's arguments alone. A piece on an open message, where neither line 4 nor line 6 holds and
--- the length plus the count is at most 16,777,215, appends its first bits, as many as the count. A finish on an open message, where
--- neither 4 nor 5 holds, closes it. Every other call changes nothing.
+-- its bits, and whether it is closed
+pub record Message : Type 0 where
+  pub bits : List ℕ
+  pub closed : Bool
+
+-- at first it is empty and open
+abbrev pub empty : Message
+empty = record { bits = []; closed = false }
+
+-- what a call answers on a message, in checking order: 3 where the message is closed; else 4, 6 and 7 for a piece, and 4 and 5 for a finish
+unfoldable pub messageNumber : ℕ → Message → Call → ℕ
+messageNumber i m (piece bytes count width) =
+    firstLine ((m .closed, 3) ∷ (line4 i width, 4) ∷ (line6 (length bytes) count, 6) ∷ (line7 (length (m .bits)) count, 7) ∷ [])
+messageNumber i m (finish width buffer) = firstLine ((m .closed, 3) ∷ (line4 i width, 4) ∷ (line5 buffer (stateBytes i), 5) ∷ [])
+
+-- what an accepted call makes of an open message: a piece appends its first bits, as many as the count; a finish closes it
+unfoldable pub grown : Message → Call → Message
+grown m (piece bytes count width) = record { bits = m .bits ++ bitsOf count bytes; closed = false }
+grown m (finish width buffer) = record { bits = m .bits; closed = true }
+
+-- the message after one more call: it grows exactly where the number is 0, so that a refused call adds nothing
 unfoldable pub extended : ℕ → Message → Call → Message
-extended i (opened m) (piece bytes count width) =
-    cond (line4 i width || line6 (length bytes) count || line7 (length m) count) (opened m) (opened (m ++ bitsOf count bytes))
-extended i (opened m) (finish width buffer) = cond (line4 i width || line5 i buffer) (opened m) (closed m)
-extended i (closed m) (piece bytes count width) = closed m
-extended i (closed m) (finish width buffer) = closed m
+extended i m call = cond (eqb (messageNumber i m call) 0) (grown m call) m
 
 unfoldable pub extendedBy : ℕ → Message → List Call → Message
 extendedBy i m [] = m
 extendedBy i m (call ∷ calls) = extendedBy i (extended i m call) calls
 
--- at first the message is empty and open
 unfoldable pub messageOf : ℕ → List Call → Message
-messageOf i calls = extendedBy i (opened []) calls
+messageOf i calls = extendedBy i empty calls

@@ -1,18 +1,19 @@
 -- What each operation answers, for every input (document 01, "Pieces and finish" and "Turned back, in checking order"). Where a call is
--- refused, the state comes back as handed in, and so do the lent bytes. Assumes nothing.
+-- refused, the state comes back as handed in, and so do the lent bytes.
 use mathlib.Core.Bool.{Bool, not, cond}
 use mathlib.Core.List.{List, [], _∷_}
 use Prim.Native.Nat.{ℕ, _+_, _*_, _-_, _%_}
 use lib.Dec.{ltb, eqb}
 use lib.ListN.{length}
+use Rattle.refusals.specs.Lines.{firstLine, line5}
+use Rattle.refusals.specs.Outcome.{Outcome, outcome, outcomeOf}
 use Rattle.quark.specs.Bytes.{bitsOf, bytesOf}
-use Rattle.quark.specs.Instance.{instanceOf}
+use Rattle.quark.specs.Instance.{instanceOf, stateBytes}
 use Rattle.quark.specs.Sponge.{digest}
-use Rattle.permutation.specs.Lines.{stateBytes, line1, line4, line5, firstLine}
-use Rattle.permutation.specs.Outcome.{Outcome, outcome, outcomeOf}
+use Rattle.permutation.specs.Lines.{line1, line4}
 use Rattle.sponge.specs.declared.State.{State}
 use Rattle.sponge.specs.declared.Reply.{Reply}
-use Rattle.sponge.specs.Taking.{takeBits, given, finished}
+use Rattle.sponge.specs.Taking.{takeBits, finishOutput, finished}
 use Rattle.sponge.specs.Soundness.{limit, absorbingPhase, closedPhase, sound, contentOf, stateWith, fresh, allZeros}
 
 -- ---- the lines
@@ -76,7 +77,7 @@ absorbResult s w bytes count =
 unfoldable pub finishNumber : State → (w buffer : ℕ) → ℕ
 finishNumber s w buffer =
     firstLine
-    ((line1 (s .instance), 1) ∷ (line2 s, 2) ∷ (line3 s, 3) ∷ (line4 (s .instance) w, 4) ∷ (line5 (s .instance) buffer, 5)
+    ((line1 (s .instance), 1) ∷ (line2 s, 2) ∷ (line3 s, 3) ∷ (line4 (s .instance) w, 4) ∷ (line5 buffer (stateBytes (s .instance)), 5)
     ∷ (line8 (s .instance) (s .total), 8) ∷ [])
 
 unfoldable pub finishResult : State → (w buffer : ℕ) → Result
@@ -85,13 +86,13 @@ finishResult s w buffer = resultBy (finishNumber s w buffer) s (stateWith (s .in
 -- the buffer after finish: the digest, n bits
 unfoldable pub finishBytes : State → (w : ℕ) → List ℕ → List ℕ
 finishBytes s w buffer =
-    cond (eqb (finishNumber s w (length buffer)) 0) (bytesOf (stateBytes (s .instance)) (given (instanceOf (s .instance)) (contentOf s))) buffer
+    cond (eqb (finishNumber s w (length buffer)) 0) (bytesOf (stateBytes (s .instance)) (finishOutput (instanceOf (s .instance)) (contentOf s))) buffer
 
 -- ---- digest
 
 unfoldable pub digestNumber : (i w bytes count buffer : ℕ) → ℕ
 digestNumber i w bytes count buffer =
-    firstLine ((line1 i, 1) ∷ (line4 i w, 4) ∷ (line5 i buffer, 5) ∷ (line6 bytes count, 6) ∷ (line7 0 count, 7) ∷ (line8 i count, 8) ∷ [])
+    firstLine ((line1 i, 1) ∷ (line4 i w, 4) ∷ (line5 buffer (stateBytes i), 5) ∷ (line6 bytes count, 6) ∷ (line7 0 count, 7) ∷ (line8 i count, 8) ∷ [])
 
 unfoldable pub digestOutcome : (i w : ℕ) (bytes : List ℕ) (count : ℕ) (buffer : List ℕ) → Outcome (Unit {0})
 digestOutcome i w bytes count buffer = outcome (digestNumber i w (length bytes) count (length buffer)) tt

@@ -1,4 +1,4 @@
--- Sound states and fresh states (document 01, "Pieces and finish"). Assumes nothing.
+-- Sound states and fresh states (document 01, "Pieces and finish").
 use mathlib.Core.Bool.{Bool, true, _&&_, _||_, cond}
 use mathlib.Core.List.{List, [], _∷_}
 use Prim.Native.Nat.{ℕ, _+_, _/_}
@@ -54,5 +54,5 @@ unfoldable pub fresh : ℕ → State
 fresh i = stateWith i absorbingPhase (record { total = 0; sponge = record { bits = instanceOf i .initial; runs = 0 } })
 
 -- what comes back where the instance is refused
-unfoldable pub allZeros : State
+abbrev pub allZeros : State
 allZeros = record { instance = 0; phase = 0; total = 0; runs = 0; bits = replicate 32 0 }

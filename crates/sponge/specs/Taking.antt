@@ -1,4 +1,4 @@
--- Taking bits one by one, and finishing (document 01, "Pieces and finish"), on what a state holds. Assumes nothing.
+-- Taking bits one by one, and finishing (document 01, "Pieces and finish"), on what a state holds.
 use mathlib.Core.Bool.{cond}
 use mathlib.Core.List.{List, [], _∷_}
 use Prim.Native.Nat.{ℕ, _+_, _-_, _/_, _%_}
@@ -13,20 +13,24 @@ pub record Content : Type 0 where
   pub total : ℕ
   pub sponge : Counted
 
-module _ (I : Instance) where
-  -- the place of the next bit
-  unfoldable pub place : ℕ → ℕ
-  place total = I .b - I .r + total % I .r
+-- the same with other bits and runs
+abbrev pub holding : Content → Counted → Content
+holding h s = record { total = h .total; sponge = s }
 
-  -- a bit is added at a place
+module _ (I : Instance) where
+  -- where the next bit goes
+  unfoldable pub bitIndex : ℕ → ℕ
+  bitIndex total = I .b - I .r + total % I .r
+
+  -- a bit is added at an index
   unfoldable pub addBit : ℕ → ℕ → Counted → Counted
   addBit at x s = record { bits = set (s .bits) at ((bit (s .bits) at + x) % 2); runs = s .runs }
 
-  -- a bit is added at its place, then the total grows by one, and P runs whenever the total reaches a multiple of r
+  -- a bit is added at its index, then the total grows by one, and P runs whenever the total reaches a multiple of r
   unfoldable pub takeBit : Content → ℕ → Content
   takeBit h x =
       let total = h .total + 1 in
-      let added = addBit (place (h .total)) x (h .sponge) in
+      let added = addBit (bitIndex (h .total)) x (h .sponge) in
       record { total = total; sponge = cond (eqb (total % I .r) 0) (runP I added) added }
 
   -- the bits of a piece, in order
@@ -34,13 +38,13 @@ module _ (I : Instance) where
   takeBits h [] = h
   takeBits h (x ∷ xs) = takeBits (takeBit h x) xs
 
-  -- a 1 is added at the next place, and P runs; the padding does not count in the total
+  -- a 1 is added at the next index, and P runs; the padding does not count in the total
   unfoldable pub afterPadding : Content → Counted
-  afterPadding h = runP I (addBit (place (h .total)) 1 (h .sponge))
+  afterPadding h = runP I (addBit (bitIndex (h .total)) 1 (h .sponge))
 
-  -- then the last r bits are given out n/r times with P between: what is given out, and the state that is left
-  unfoldable pub given : Content → List ℕ
-  given h = output I (I .n / I .r) (afterPadding h)
+  -- then the last r bits are given out n/r times with P between: what is given out, and what is held after it
+  unfoldable pub finishOutput : Content → List ℕ
+  finishOutput h = output I (I .n / I .r) (afterPadding h)
 
   unfoldable pub finished : Content → Content
-  finished h = record { total = h .total; sponge = squeezed I (I .n / I .r - 1) (afterPadding h) }
+  finished h = holding h (squeezed I (I .n / I .r - 1) (afterPadding h))

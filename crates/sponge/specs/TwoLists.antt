@@ -1,88 +1,77 @@
 -- Demand 3 of document 01: the statement about two whole lists of piece and finish calls, refused ones included, each from a fresh state
--- of one and the same instance. Its proof is in proofs/TwoLists.antt. Assumes nothing.
-use mathlib.Core.Bool.{true}
-use mathlib.Core.List.{List, [], _∷_}
+-- of one and the same instance. Its proof is in proofs/TwoLists.antt.
+use mathlib.Core.Bool.{true, cond}
+use mathlib.Core.List.{List}
 use mathlib.Core.Logic.{_↔_, _⊎_}
 use mathlib.Core.Path.{_≡_}
 use Prim.Native.Nat.{ℕ}
 use lib.ListN.{length}
 use Rattle.quark.specs.Bytes.{bitsOf}
-use Rattle.quark.specs.Instance.{instanceOf}
-use Rattle.quark.specs.Sponge.{Counted, pad, blockCount, absorbing, closed as closedState}
+use Rattle.quark.specs.Instance.{instanceOf, isInstance}
+use Rattle.quark.specs.Sponge.{Counted, pad, blockCount, absorbing, closed}
 use Rattle.quark.specs.CloseAlike.{OnlyDiffering, Meet}
-use Rattle.permutation.specs.Lines.{isInstance, line4, line5, firstLine}
 use Rattle.sponge.specs.declared.State.{State}
 use Rattle.sponge.specs.Soundness.{absorbingPhase, closedPhase, sound}
-use Rattle.sponge.specs.Outcomes.{line6, line7, absorbNumber, finishNumber}
-use Rattle.sponge.specs.Calls.{Call, run, Message, opened, closed, messageOf}
+use Rattle.sponge.specs.Calls.{Call, stateNumber, run, Message, messageNumber, messageOf}
 
--- ---- what a message determines
-
-unfoldable pub bitsIn : Message → List ℕ
-bitsIn (opened m) = m
-bitsIn (closed m) = m
+-- ---- a list follows its message
 
 unfoldable pub phaseOf : Message → ℕ
-phaseOf (opened m) = absorbingPhase
-phaseOf (closed m) = closedPhase
+phaseOf m = cond (m .closed) closedPhase absorbingPhase
 
 -- the definition's sponge over the message: its bits, and how often it ran P
 unfoldable pub spongeOf : ℕ → Message → Counted
-spongeOf i (opened m) = absorbing (instanceOf i) m
-spongeOf i (closed m) = closedState (instanceOf i) m
+spongeOf i m = cond (m .closed) (closed (instanceOf i) (m .bits)) (absorbing (instanceOf i) (m .bits))
 
 -- a state is the one that a message determines
 pub record Follows (i : ℕ) (m : Message) (s : State) : Type 0 where
   pub is-sound : sound s ≡ true
   pub instance-is : s .instance ≡ i
   pub phase-is : s .phase ≡ phaseOf m
-  pub total-is : s .total ≡ length (bitsIn m)
+  pub total-is : s .total ≡ length (m .bits)
   pub runs-are : s .runs ≡ spongeOf i m .runs
   pub bits-are : bitsOf (instanceOf i .b) (s .bits) ≡ spongeOf i m .bits
 
--- all b bits of two states are equal: of two closed states, the lists close alike
-unfoldable pub SameBits : ℕ → State → State → Type 0
-SameBits i s t = bitsOf (instanceOf i .b) (s .bits) ≡ bitsOf (instanceOf i .b) (t .bits)
-
--- ---- what a call in a list answers, by the message so far: open, the lines that its arguments break; closed, line 3
-
-unfoldable pub pieceNumber : ℕ → Message → (bytes count width : ℕ) → ℕ
-pieceNumber i (opened m) bytes count width = firstLine ((line4 i width, 4) ∷ (line6 bytes count, 6) ∷ (line7 (length m) count, 7) ∷ [])
-pieceNumber i (closed m) bytes count width = 3
-
-unfoldable pub closeNumber : ℕ → Message → (width buffer : ℕ) → ℕ
-closeNumber i (opened m) width buffer = firstLine ((line4 i width, 4) ∷ (line5 i buffer, 5) ∷ [])
-closeNumber i (closed m) width buffer = 3
-
--- ---- the statement, for instances 1, 2 and 3
-
--- a run follows its message
+-- the state after a list is the one that the list's message determines
 unfoldable pub RunFollows : Type 0
 RunFollows = (i : ℕ) → isInstance i ≡ true → (calls : List Call) → Follows i (messageOf i calls) (run i calls)
 
--- so do the answers: in a list lines 1, 2 and 8 never refuse, and 3 is said to a closed message alone
+-- and the message determines what each further call answers: in a list lines 1, 2 and 8 never refuse, and 3 is said to a closed message
+-- alone
 unfoldable pub AnswersFollow : Type 0
 AnswersFollow =
-    (i : ℕ) → isInstance i ≡ true → (calls : List Call)
-    → ((bytes count width : ℕ) → absorbNumber (run i calls) width bytes count ≡ pieceNumber i (messageOf i calls) bytes count width)
-    × ((width buffer : ℕ) → finishNumber (run i calls) width buffer ≡ closeNumber i (messageOf i calls) width buffer)
+    (i : ℕ) → isInstance i ≡ true → (calls : List Call) (call : Call) → stateNumber (run i calls) call ≡ messageNumber i (messageOf i calls) call
 
--- two lists that end closed, with messages m and m′ that pad to equally many blocks: all b bits of the closed states are equal exactly when
--- the messages are equal, or when they aren't and the states just before the last differing block differ by exactly the difference of
--- those two blocks in the last r bits and nowhere else
+-- ---- two lists
+
+-- the bits of a list's message
+abbrev pub bitsIn : ℕ → List Call → List ℕ
+bitsIn i calls = messageOf i calls .bits
+
+-- two lists of instance 1, 2 or 3 that both end closed, with messages that pad to equally many blocks
+pub record Comparable (i : ℕ) (calls calls′ : List Call) : Type 0 where
+  pub known : isInstance i ≡ true
+  pub closes : messageOf i calls .closed ≡ true
+  pub closes′ : messageOf i calls′ .closed ≡ true
+  pub equal-counts : blockCount (instanceOf i) (bitsIn i calls) ≡ blockCount (instanceOf i) (bitsIn i calls′)
+
+-- document 01's "close alike": all b bits of the two closed states are equal
+unfoldable pub ListsCloseAlike : ℕ → List Call → List Call → Type 0
+ListsCloseAlike i calls calls′ = bitsOf (instanceOf i .b) (run i calls .bits) ≡ bitsOf (instanceOf i .b) (run i calls′ .bits)
+
+-- they close alike exactly when the messages are equal, or when they aren't and the states just before the last differing block differ by
+-- exactly the difference of those two blocks in the last r bits and nowhere else
 unfoldable pub TwoLists : Type 0
 TwoLists =
-    (i : ℕ) → isInstance i ≡ true → (calls calls′ : List Call) (m m′ : List ℕ) → messageOf i calls ≡ closed m → messageOf i calls′ ≡ closed m′
-    → blockCount (instanceOf i) m ≡ blockCount (instanceOf i) m′
-    → SameBits i (run i calls) (run i calls′) ↔ (m ≡ m′) ⊎ Meet (instanceOf i) m m′
+    (i : ℕ) (calls calls′ : List Call) → Comparable i calls calls′
+    → ListsCloseAlike i calls calls′ ↔ (bitsIn i calls ≡ bitsIn i calls′) ⊎ Meet (instanceOf i) (bitsIn i calls) (bitsIn i calls′)
 
 -- so messages whose padded forms differ in just one block never close alike
 unfoldable pub OneBlockApart : Type 0
 OneBlockApart =
-    (i : ℕ) → isInstance i ≡ true → (calls calls′ : List Call) (m m′ : List ℕ) → messageOf i calls ≡ closed m → messageOf i calls′ ≡ closed m′
-    → blockCount (instanceOf i) m ≡ blockCount (instanceOf i) m′
-    → (k : ℕ) → OnlyDiffering (instanceOf i) (pad (instanceOf i) m) (pad (instanceOf i) m′) (blockCount (instanceOf i) m) k
-    → ¬ SameBits i (run i calls) (run i calls′)
+    (i : ℕ) (calls calls′ : List Call) → Comparable i calls calls′
+    → (k : ℕ) → OnlyDiffering (instanceOf i) (pad (instanceOf i) (bitsIn i calls)) (pad (instanceOf i) (bitsIn i calls′)) (blockCount (instanceOf i) (bitsIn i calls)) k
+    → ¬ ListsCloseAlike i calls calls′
 
 -- demand 3, whole
 pub record Demand3 : Type 0 where

@@ -1,9 +1,8 @@
-// Document 01's fresh state, and the state that comes back where the instance is refused.
+// Document 01's fresh state, and the state that comes back where the instance is refused. No other function names all fields of a state.
 ghost use mathlib.Core.Path.{_≡_};
-ghost use lib.ListN.{replicate};
 ghost use Rattle.quark.specs.Bytes.{bytesOf};
 ghost use Rattle.quark.specs.Instance.{instanceOf};
-ghost use Rattle.sponge.specs.Soundness.{fresh};
+ghost use Rattle.sponge.specs.Soundness.{fresh, allZeros};
 use crate::State;
 
 // The initial bits of an instance in byte form (QUARK, Appendix A), with zeros up to 32 bytes.
@@ -33,13 +32,13 @@ pub fn fresh(instance: u32) -> State
     }
 }
 
-// Zeros, but for the instance's number.
-pub fn zeros(instance: u32) -> State
-    ensures { λ r. ⌜ r ≡ record { instance = instance; phase = 0; total = 0; runs = 0; bits = replicate 32 0 } ⌝ }
+// All zeros.
+pub fn zeros() -> State
+    ensures { λ r. ⌜ r ≡ allZeros ⌝ }
 {
     let bits = [0u8; 32];
     State {
-        instance,
+        instance: 0,
         phase: 0,
         total: 0,
         runs: 0,

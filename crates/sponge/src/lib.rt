@@ -2,20 +2,20 @@
 // A state is passed by value and comes back beside the answer. All tests of a call precede all of its work.
 ghost use mathlib.Core.Path.{_≡_};
 ghost use lib.ListN.{length};
-ghost use Rattle.permutation.specs.Outcome.{outcomeOf};
+ghost use Rattle.refusals.specs.Outcome.{outcomeOf};
 ghost use Rattle.sponge.specs.Outcomes.{resultOf, initResult, absorbResult, finishResult, finishBytes, digestOutcome, digestBytes};
-use permutation::Answer;
-use permutation::Refusal;
 use permutation::lines::UNKNOWN_INSTANCE;
 use permutation::lines::is_instance;
+use refusals::Answer;
+use refusals::Refusal;
 
 mod fresh;
 mod lines;
+mod output;
 mod pieces;
-mod place;
+mod rate;
 mod replies;
 mod sound;
-mod squeeze;
 
 // A state of the sponge (document 01, "Pieces and finish"). Its fields are public: a forged state is an input like any other.
 pub struct State {
@@ -45,7 +45,7 @@ pub fn init(instance: u32) -> Reply
     if is_instance(instance) {
         return replies::accept(fresh::fresh(instance));
     }
-    replies::refuse(UNKNOWN_INSTANCE, fresh::zeros(0))
+    replies::refuse(UNKNOWN_INSTANCE, fresh::zeros())
 }
 
 // Document 01's piece: takes the first `count` bits of the bytes into an absorbing state, `width` steps of P together.
@@ -70,7 +70,7 @@ pub fn finish(state: State, width: u32, buffer: &mut [u8]) -> Reply
     if number != 0 {
         return replies::refuse(number, state);
     }
-    replies::accept(squeeze::close(state, width, buffer))
+    replies::accept(output::close(state, width, buffer))
 }
 
 // Document 01's whole digest: writes the digest of the first `count` bits of the message into the buffer. It is `init`, one `absorb` and
@@ -85,6 +85,6 @@ pub fn digest(instance: u32, width: u32, message: &[u8], count: usize, buffer: &
         return Answer::Refused(Refusal { number, place: 0 });
     }
     let state = pieces::take_bits(fresh::fresh(instance), width, message, count);
-    squeeze::close(state, width, buffer);
+    output::close(state, width, buffer);
     Answer::Accepted
 }

@@ -1,19 +1,19 @@
 // The lines of document 01, "Turned back, in checking order", that read a state, a count or a total, and the order of the lines in each
-// operation. Lines 1, 4 and 5 are the permutation's.
+// operation. Lines 1 and 4 are the permutation's, and the number of line 5 is in `refusals`.
 ghost use mathlib.Core.Path.{_≡_};
 ghost use Rattle.sponge.specs.Outcomes.{line6, line7, line8, absorbNumber, finishNumber, digestNumber};
 use crate::State;
-use crate::place;
+use crate::rate;
 use crate::sound::LIMIT;
 use crate::sound::is_closed;
 use crate::sound::is_sound;
 use permutation::lines::UNKNOWN_INSTANCE;
 use permutation::lines::UNKNOWN_WIDTH;
-use permutation::lines::WRONG_LENGTH;
-use permutation::lines::first;
 use permutation::lines::is_instance;
 use permutation::lines::is_width;
 use permutation::lines::state_bytes;
+use refusals::lines::WRONG_LENGTH;
+use refusals::lines::first;
 
 // 2. A state is not sound, or its phase is not 0 or 1.
 const UNSOUND_STATE: u32 = 2;
@@ -55,9 +55,9 @@ fn total_over(total: u32, count: usize) -> bool
 fn padding_off(instance: u32, total: usize) -> bool
     ensures { λ r. ⌜ r ≡ line8 instance total ⌝ }
 {
-    let r = place::rate(instance);
-    let taken = total % r;
-    (taken + 1 + (r - 1 - taken)) % r != 0
+    let r = rate::rate(instance);
+    let begun = total % r;
+    (begun + 1 + (r - 1 - begun)) % r != 0
 }
 
 // The first of lines 1, 2, 3, 4, 6 and 7 that holds for a piece; 0 where none does.

@@ -1,11 +1,11 @@
 // Replies: an answer, with the state that a call hands back.
 ghost use mathlib.Core.Path.{_≡_};
-ghost use Rattle.permutation.specs.Outcome.{accepted, refused};
+ghost use Rattle.refusals.specs.Outcome.{accepted, refused};
 ghost use Rattle.sponge.specs.Outcomes.{resultOf};
 use crate::Reply;
 use crate::State;
-use permutation::Answer;
-use permutation::Refusal;
+use refusals::Answer;
+use refusals::Refusal;
 
 // Accepted, with the state after the call.
 pub fn accept(state: State) -> Reply

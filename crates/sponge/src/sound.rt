@@ -5,7 +5,7 @@ ghost use lib.ListN.{drop};
 ghost use Rattle.quark.specs.Instance.{instanceOf};
 ghost use Rattle.sponge.specs.Soundness.{closedPhase, allZero, soundRuns, sound};
 use crate::State;
-use crate::place;
+use crate::rate;
 use permutation::lines::state_bytes;
 
 // The greatest total of bits.
@@ -34,11 +34,11 @@ fn zero_from(bits: [u8; 32], start: usize) -> bool
 fn sound_runs(instance: u32, phase: u32, total: u32) -> usize
     ensures { λ r. ⌜ r ≡ soundRuns (instanceOf instance) phase total ⌝ }
 {
-    let blocks = total as usize / place::rate(instance);
+    let blocks = total as usize / rate::rate(instance);
     if phase == ABSORBING {
         return blocks;
     }
-    blocks + place::outputs(instance)
+    blocks + rate::outputs(instance)
 }
 
 // Whether a state is closed.
@@ -52,19 +52,9 @@ pub fn is_closed(state: State) -> bool
 pub fn is_sound(state: State) -> bool
     ensures { λ r. ⌜ r ≡ sound state ⌝ }
 {
-    if state.total > LIMIT {
-        return false;
-    }
     let bits = state.bits;
-    if !zero_from(bits, state_bytes(state.instance)) {
-        return false;
-    }
-    let runs = state.runs as usize;
-    if runs != sound_runs(state.instance, state.phase, state.total) {
-        return false;
-    }
-    if state.phase == ABSORBING {
-        return true;
-    }
-    is_closed(state)
+    let zeros = zero_from(bits, state_bytes(state.instance));
+    let runs = state.runs as usize == sound_runs(state.instance, state.phase, state.total);
+    let phase = (state.phase == ABSORBING) | is_closed(state);
+    (state.total <= LIMIT) & zeros & runs & phase
 }

@@ -1,10 +1,10 @@
 // Appendix B of the paper (document 001), run at each width of each instance: the state after the padding of the empty message is
-// added, the states that the permutation makes of it in turn, as many as the paper lists, the first state again after as many inverses,
+// added, the states that runs of the permutation make of it, as many as the paper lists, the first state again after as many inverses,
 // and the digest of the empty message. Then L after 10 and 1,023 steps (document 01, "Sample values"). What must be written, in `stdout`,
 // is typed from those documents.
 ghost use Prim.Native.Nat.{_<_};
 use libc::STDOUT_FILENO;
-use permutation::Answer;
+use refusals::Answer;
 
 // A hexadecimal digit, in upper case.
 fn digit(value: u8) -> u8
@@ -102,11 +102,11 @@ fn write_s(heading: &[u8], width: u32) {
     write_vectors(heading, 3, width, 7, &mut state);
 }
 
-// Writes the binary digit of a number at a place below 32.
-fn write_bit(number: u32, place: u32)
-    requires { ⌜ place < 32 ⌝ }
+// Writes the bit of a number with the weight 2 to the i.
+fn write_bit(number: u32, i: u32)
+    requires { ⌜ i < 32 ⌝ }
 {
-    if (number >> place) % 2 == 1 {
+    if (number >> i) % 2 == 1 {
         io::write_all(STDOUT_FILENO, b"1");
     } else {
         io::write_all(STDOUT_FILENO, b"0");
@@ -117,10 +117,10 @@ fn write_bit(number: u32, place: u32)
 fn write_lfsr(heading: &[u8], steps: u32) {
     io::write_all(STDOUT_FILENO, heading);
     let l = permutation::lfsr(steps);
-    let mut place: u32 = 10;
-    while place > 0 {
-        place -= 1;
-        write_bit(l, place);
+    let mut i: u32 = 10;
+    while i > 0 {
+        i -= 1;
+        write_bit(l, i);
     }
     write_newline();
 }

@@ -1,33 +1,30 @@
--- Calls that fit: the test says what the turns need, and the other way round. A register of two words is below 2 ^ (64 + k) where its high
--- word is below 2 ^ k. Assumes nothing.
-use mathlib.Core.Bool.{Bool, true, false, _&&_, false≢true}
-use mathlib.Core.Path.{_≡_, refl, sym, ap, _∙_, subst}
-use Prim.Native.Nat.{ℕ, _+_, _*_, _/_, _%_, _^_, _<_, _≤_}
-use native.Mathlib.Nat.{add-zero, div-add-mod', le-trans, le-add-right, mul-le-mul-right}
-use borrow.Author.Tests.{eqb-true, eq-eqb, ltb-true, ltb-false, lt-ltb, le-ltb}
+-- Calls that fit: the test says what the groups need, and the other way round. A register of two words is below 2 ^ (64 + k) where its high
+-- word is below 2 ^ k.
+use mathlib.Core.Bool.{Bool, true, false, not, _&&_, and-eq-true-iff, false≢true}
+use mathlib.Core.Path.{_≡_, refl, sym, _∙_, subst}
+use Prim.Native.Nat.{ℕ, _+_, _*_, _%_, _^_, _<_, _≤_}
+use native.Mathlib.Nat.{le-trans, le-add-right, mul-le-mul-right}
+use borrow.Author.Tests.{eqb-true, eqb-false, eq-eqb, ne-eqb, not-true, not-false, ltb-true, ltb-false, lt-ltb, le-ltb}
 use lib.Arith.{digits-lt}
 use lib.Dec.{eqb, ltb}
 use lib.Pow.{pow-add}
-use Rattle.quark.specs.Instance.{instanceOf}
-use Rattle.words.specs.declared.State.{State}
-use Rattle.words.specs.Words.{value, isKnown, isTurn, fits, Fitting}
-use Rattle.words.specs.leaf.Turns.{Turns}
-use Rattle.words.proofs.Widths.{tested-turn, turn-tested}
+use Rattle.quark.specs.Instance.{instanceOf, isInstance, isWidth}
+use Rattle.words.specs.declared.RegisterWords.{RegisterWords}
+use Rattle.words.specs.Words.{value, fits, Fitting}
+use Rattle.words.specs.leaf.Groups.{WidthOf}
+use Rattle.words.proofs.Widths.{width-fits, some-width, several}
 
 -- ---- the test of a call
 
-both : (a b : Bool) → (a && b) ≡ true → (a ≡ true) × (b ≡ true)
-both true b e = (refl, e)
-both false b e = absurd (false≢true e)
-
 -- what a call that fits has
-pub record Fits (i w n : ℕ) (s : State) : Type 0 where
-  pub known : isKnown i ≡ true
-  pub turns : Turns i w
+pub record Fits (i w n : ℕ) (s : RegisterWords) : Type 0 where
+  pub known : isInstance i ≡ true
+  pub width : isWidth i w ≡ true
+  pub more : w ≡ 1 → ⊥
   pub whole : n % w ≡ 0
   pub words : Fitting (instanceOf i .taps) (s .x) (s .y) (s .l)
 
-pub tested-fits : (i w n : ℕ) (s : State) → fits i w n s ≡ true → Fits i w n s
+pub tested-fits : (i w n : ℕ) (s : RegisterWords) → fits i w n s ≡ true → Fits i w n s
 unfolding fits
 tested-fits i w n s e =
     let bound = 2 ^ instanceOf i .taps .half in
@@ -35,38 +32,57 @@ tested-fits i w n s e =
     let y = ltb (value (s .y)) bound in
     let x = ltb (value (s .x)) bound in
     let whole = eqb (n % w) 0 in
-    let turn = isKnown i && isTurn i w in
-    let four = both (turn && whole && x && y) l e in
-    let three = both (turn && whole && x) y (four .0) in
-    let two = both (turn && whole) x (three .0) in
-    let one = both turn whole (two .0) in
-    let first = both (isKnown i) (isTurn i w) (one .0) in
+    let more = not (eqb w 1) in
+    let width = isInstance i && isWidth i w in
+    let five = and-eq-true-iff (width && more && whole && x && y) l .0 e in
+    let four = and-eq-true-iff (width && more && whole && x) y .0 (five .0) in
+    let three = and-eq-true-iff (width && more && whole) x .0 (four .0) in
+    let two = and-eq-true-iff (width && more) whole .0 (three .0) in
+    let one = and-eq-true-iff width more .0 (two .0) in
+    let first = and-eq-true-iff (isInstance i) (isWidth i w) .0 (one .0) in
     record {
       known = first .0;
-      turns = tested-turn i w (first .1);
-      whole = eqb-true (n % w) 0 (one .1);
+      width = first .1;
+      more = eqb-false w 1 (not-true (eqb w 1) (one .1));
+      whole = eqb-true (n % w) 0 (two .1);
       words = record {
-        fitsX = ltb-true (value (s .x)) bound (two .1);
-        fitsY = ltb-true (value (s .y)) bound (three .1);
-        fitsL = ltb-true (s .l) 1024 (four .1);
+        fitsX = ltb-true (value (s .x)) bound (three .1);
+        fitsY = ltb-true (value (s .y)) bound (four .1);
+        fitsL = ltb-true (s .l) 1024 (five .1);
       };
     }
 
-pub fits-tested : (i w n : ℕ) (s : State) → Fits i w n s → fits i w n s ≡ true
+pub fits-tested : (i w n : ℕ) (s : RegisterWords) → Fits i w n s → fits i w n s ≡ true
 unfolding fits
 fits-tested i w n s f =
     let bound = 2 ^ instanceOf i .taps .half in
     simp (
       f .known,
-      turn-tested i w (f .turns),
+      f .width,
+      ne-eqb w 1 (f .more),
       eq-eqb (n % w) 0 (f .whole),
       lt-ltb (value (s .x)) bound (f .words .fitsX),
       lt-ltb (value (s .y)) bound (f .words .fitsY),
       lt-ltb (s .l) 1024 (f .words .fitsL),
     )
 
-pub whole-turns : (n w : ℕ) → n % w ≡ 0 → n / w * w ≡ n
-whole-turns n w e = sym (add-zero (n / w * w)) ∙ ap (λ (r : ℕ). n / w * w + r) (sym e) ∙ div-add-mod' n w
+-- a call that was tested
+pub passed : (i w n : ℕ) (s : RegisterWords) {b : Bool} → b ≡ fits i w n s → not b ≡ false → Fits i w n s
+passed i w n s {b} e left = tested-fits i w n s (sym e ∙ not-false b left)
+
+pub fits-width : {i w n : ℕ} {s : RegisterWords} → Fits i w n s → WidthOf i w
+fits-width {i} {w} f = several i w (f .width) (f .more)
+
+pub fits-some : {i w n : ℕ} {s : RegisterWords} → Fits i w n s → 0 < w
+fits-some {i} {w} f = width-fits w (some-width i w (fits-width f)) .0
+
+-- what is promised of a call that fits, and of one that does not
+pub promised : (i w n : ℕ) (s : RegisterWords) {A B : Type 0} → Fits i w n s → A → (fits i w n s ≡ true → A) × (fits i w n s ≡ false → B)
+promised i w n s f a = (λ e. a, λ e. absurd (false≢true (sym e ∙ fits-tested i w n s f)))
+
+pub promised-else : (i w n : ℕ) (s : RegisterWords) {A B : Type 0} {b : Bool} → b ≡ fits i w n s → not b ≡ true → B
+    → (fits i w n s ≡ true → A) × (fits i w n s ≡ false → B)
+promised-else i w n s {A} {B} {b} e taken a = (λ t. absurd (false≢true (sym (sym e ∙ not-true b taken) ∙ t)), λ t. a)
 
 -- ---- a register of two words
 

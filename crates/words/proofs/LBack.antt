@@ -1,5 +1,5 @@
 -- Eight steps of L undone. Below L stand the eight bits of its sequence before it, and ten bits of both are L before the steps. Of the
--- sums that make L's last eight bits, those three places on are L's or among the eight. Assumes nothing.
+-- sums that make L's last eight bits, those three places on are L's or among the eight.
 use mathlib.Core.List.{List}
 use mathlib.Core.Path.{_≡_, sym, ap, ap₂, _∙_}
 use Prim.Native.Nat.{ℕ, suc-le-suc, _+_, _-_, _*_, _/_, _%_, _^_, _<_}
@@ -34,8 +34,8 @@ summed-bit m k h =
     let n : ℕ = unsummed m in
     let six : 3 + (3 + k) ≡ 6 + k = omega arith in
     let none : wordBit m (6 + (3 + k)) ≡ 0 = past-end m 8 (6 + (3 + k)) h (omega arith) in
-    let near : wordBit n k ≡ ((wordBit m k + wordBit m (3 + k)) % 2 + wordBit m (6 + k)) % 2 = unsummed-bit m k in
-    let far : wordBit n (3 + k) ≡ ((wordBit m (3 + k) + wordBit m (6 + k)) % 2 + 0) % 2 =
+    let first-term : wordBit n k ≡ ((wordBit m k + wordBit m (3 + k)) % 2 + wordBit m (6 + k)) % 2 = unsummed-bit m k in
+    let second-term : wordBit n (3 + k) ≡ ((wordBit m (3 + k) + wordBit m (6 + k)) % 2 + 0) % 2 =
     unsummed-bit m (3 + k) ∙ ap₂ (λ (x y : ℕ). ((wordBit m (3 + k) + x) % 2 + y) % 2) (ap (wordBit m) six) none in
     let bound = wordBit-lt m k in
     omega arith
@@ -53,8 +53,8 @@ module _ (l n : ℕ) (small : n < 2 ^ 8) (sums : (j : ℕ) → j < 8 → (wordBi
       let place : j + 10 - 8 ≡ 2 + j = omega arith in
       let down : word / 2 ^ 3 ≡ l * 2 ^ 5 + n / 2 ^ 3 = omega arith in
       let last : wordBit word (j + 10) ≡ wordBit l (2 + j) = high-bit l 8 n (j + 10) small (omega arith) ∙ ap (wordBit l) place in
-      let near : wordBit word j ≡ wordBit n j = low-bit l 8 n j small less in
-      let far : wordBit word (j + 3) ≡ (wordBit (l * 2 ^ 5) j + wordBit n (3 + j)) % 2 =
+      let first-term : wordBit word j ≡ wordBit n j = low-bit l 8 n j small less in
+      let second-term : wordBit word (j + 3) ≡ (wordBit (l * 2 ^ 5) j + wordBit n (3 + j)) % 2 =
       ap (wordBit word) (add-comm j 3)
       ∙ sym (wordBit-shr word 3 j)
       ∙ ap (λ (x : ℕ). wordBit x j) (down ∙ sym (xor-shifted l 5 (n / 2 ^ 3) (shr-lt 5 3 small)))

@@ -1,5 +1,5 @@
 -- L's sequence: its first bit after each number of steps. Ten bits of it in a row are L, and each bit is the sum of those ten and seven
--- places before it. Words of bits in a row, and the word so many bits further. Assumes nothing.
+-- places before it. Words of its bits in a row, and the word of those w places on.
 use mathlib.Core.List.{List, [], _∷_}
 use mathlib.Core.Logic.{⊎-elim}
 use mathlib.Core.Path.{_≡_, sym, ap, ap₂, _∙_, subst}
@@ -26,24 +26,24 @@ Recurs s n t = (k : ℕ) → s (k + n) ≡ (s k + s (k + t)) % 2
 -- bit k + 2 n is the sum of the bits k, k + t, k + t and k + 2 t
 pub doubled : (s : ℕ → ℕ) (n t : ℕ) → Recurs s n t → Recurs s (n * 2) (t * 2)
 doubled s n t law k =
-    let far : k + n * 2 ≡ k + n + n = omega arith in
-    let mid : k + n + t ≡ k + t + n = omega arith in
-    let near : k + t + t ≡ k + t * 2 = omega arith in
-    let first : s (k + n * 2) ≡ (s (k + n) + s (k + t + n)) % 2 = ap s far ∙ law (k + n) ∙ ap (λ (i : ℕ). (s (k + n) + s i) % 2) mid in
+    let twice-n : k + n * 2 ≡ k + n + n = omega arith in
+    let exchanged : k + n + t ≡ k + t + n = omega arith in
+    let twice-t : k + t + t ≡ k + t * 2 = omega arith in
+    let first : s (k + n * 2) ≡ (s (k + n) + s (k + t + n)) % 2 = ap s twice-n ∙ law (k + n) ∙ ap (λ (i : ℕ). (s (k + n) + s i) % 2) exchanged in
     let second = law k in
-    let third : s (k + t + n) ≡ (s (k + t) + s (k + t * 2)) % 2 = law (k + t) ∙ ap (λ (i : ℕ). (s (k + t) + s i) % 2) near in
+    let third : s (k + t + n) ≡ (s (k + t) + s (k + t * 2)) % 2 = law (k + t) ∙ ap (λ (i : ℕ). (s (k + t) + s i) % 2) twice-t in
     omega arith
 
--- the n bits from place w on, of the first n
-pub further : (s : ℕ → ℕ) (n t w p word : ℕ) → Recurs s n t → w + p ≡ n → t ≤ p → word < 2 ^ n → ((k : ℕ) → k < n → s k ≡ wordBit word k)
-    → (k : ℕ) → k < n → s (w + k) ≡ wordBit (bitXor word (word / 2 ^ t) % 2 ^ w * 2 ^ p + word / 2 ^ w) k
-further s n t w p word law e reach small known k less =
+-- the n bits from place w on, from the first n
+pub further : (s : ℕ → ℕ) (n t w kept word : ℕ) → Recurs s n t → w + kept ≡ n → t ≤ kept → word < 2 ^ n → ((k : ℕ) → k < n → s k ≡ wordBit word k)
+    → (k : ℕ) → k < n → s (w + k) ≡ wordBit (bitXor word (word / 2 ^ t) % 2 ^ w * 2 ^ kept + word / 2 ^ w) k
+further s n t w kept word law e reach small known k less =
     let new : ℕ = bitXor word (word / 2 ^ t) in
-    let e′ : n ≡ p + w = omega arith in
-    joined-bits (λ i. s (w + i)) (new % 2 ^ w) p (word / 2 ^ w) w (shr-lt p w (subst (λ (i : ℕ). word < 2 ^ i) e′ small))
+    let e′ : n ≡ kept + w = omega arith in
+    joined-bits (λ i. s (w + i)) (new % 2 ^ w) kept (word / 2 ^ w) w (shr-lt kept w (subst (λ (i : ℕ). word < 2 ^ i) e′ small))
     (λ i g. known (w + i) (omega arith) ∙ sym (wordBit-shr word w i))
     (λ i g.
-    (let place : w + (p + i) ≡ i + n = omega arith in
+    (let place : w + (kept + i) ≡ i + n = omega arith in
     ap s place
     ∙ law i
     ∙ ap₂ (λ (x y : ℕ). (x + y) % 2) (known i (omega arith))
@@ -67,7 +67,7 @@ onwards s n t (suc w) word law reach sums known k less =
     ∙ ap (wordBit word) (sym e)))
     (below k (n + w))
 
--- ---- L's
+-- ---- L's sequence
 
 pub length-stepsL : (k : ℕ) (r : List ℕ) → length r ≡ 10 → length (stepsL k r) ≡ 10
 unfolding stepsL stepL shift
@@ -81,7 +81,7 @@ step-bit r e i h =
     let inside : i < length (drop 1 r) = simp length-drop (omega arith) in
     List·getD-append (drop 1 r) (p (bit r) ∷ []) 0 i inside ∙ getD-drop 1 r i 0
 
--- and adds the sum of L0 and L3 behind
+-- and puts the sum of L0 and L3 last
 step-new : (r : List ℕ) → length r ≡ 10 → bit (stepL r) 9 ≡ (bit r 0 + bit r 3) % 2
 unfolding stepL shift p
 step-new r e = getD-at (drop 1 r) ((bit r 0 + bit r 3) % 2) [] 0 9 (simp length-drop (omega arith))
@@ -100,7 +100,7 @@ pub sequence-later : (r : List ℕ) (j k : ℕ) → sequence (stepsL j r) k ≡ 
 sequence-later r j k = ap (λ (q : List ℕ). bit q 0) (sym (stepsL-add j k r))
 
 -- its first ten bits are L
-pub sequence-bit : (r : List ℕ) → length r ≡ 10 → (j : ℕ) → j < 10 → sequence r j ≡ bit r j
+sequence-bit : (r : List ℕ) → length r ≡ 10 → (j : ℕ) → j < 10 → sequence r j ≡ bit r j
 sequence-bit r e j h = moved-bit r e j 0 (omega arith) ∙ ap (bit r) (add-zero j)
 
 later-bit : (r : List ℕ) → length r ≡ 10 → (k j : ℕ) → j < 10 → bit (stepsL k r) j ≡ sequence r (k + j)
@@ -136,7 +136,7 @@ firsts-joined r w v a b small first next =
     joined-bits (sequence r) b w a v small first (λ k g. sym (sequence-later r w k) ∙ next k g)
 
 -- the first n bits after w steps
-pub firsts-further : (r : List ℕ) (n t w p word : ℕ) → Recurs (sequence r) n t → w + p ≡ n → t ≤ p → word < 2 ^ n → Firsts n r word
-    → Firsts n (stepsL w r) (bitXor word (word / 2 ^ t) % 2 ^ w * 2 ^ p + word / 2 ^ w)
-firsts-further r n t w p word law e reach small first k g =
-    sequence-later r w k ∙ further (sequence r) n t w p word law e reach small first k g
+pub firsts-further : (r : List ℕ) (n t w kept word : ℕ) → Recurs (sequence r) n t → w + kept ≡ n → t ≤ kept → word < 2 ^ n → Firsts n r word
+    → Firsts n (stepsL w r) (bitXor word (word / 2 ^ t) % 2 ^ w * 2 ^ kept + word / 2 ^ w)
+firsts-further r n t w kept word law e reach small first k g =
+    sequence-later r w k ∙ further (sequence r) n t w kept word law e reach small first k g

@@ -1,7 +1,7 @@
 -- L in strides: words of its first bits, four steps from its old bits, and 24 steps on forty bits of its sequence. L is the ten bits of a
--- number. Assumes nothing.
+-- number.
 use mathlib.Core.List.{List}
-use mathlib.Core.Path.{_≡_, refl, sym, ap, _∙_, subst}
+use mathlib.Core.Path.{_≡_, refl, sym, _∙_, subst}
 use Prim.Native.Nat.{ℕ, _+_, _*_, _/_, _%_, _^_, _<_}
 use native.Mathlib.Nat.{add-comm, mod-lt}
 use native.Mathlib.Omega.{arith}
@@ -12,6 +12,8 @@ use Rattle.quark.specs.Step.{stepsL}
 use Rattle.quark.specs.Word.{wordBits}
 use Rattle.quark.proofs.Together.{stepsL-add}
 use Rattle.quark.proofs.Word.{wordBit-mod, length-wordBits}
+use Rattle.words.specs.leaf.Groups.{SteppedL}
+use Rattle.words.proofs.Groups.{L-composes}
 use Rattle.words.proofs.LSequence.{Recurs, doubled, length-stepsL, sequence, recurs, Firsts, first-bit, ten-firsts, firsts-joined, firsts-further}
 use Rattle.words.proofs.MovedUp.{up-lt}
 
@@ -56,26 +58,22 @@ eight-more r w word next known e =
           (subst (λ (q : List ℕ). Firsts 8 q (next % 2 ^ 8)) e (firsts-low (wordBits 10 next) 8 next (firsts-eight next))),
     )
 
-pub eight-later : (r : List ℕ) (w l next : ℕ) → wordBits 10 l ≡ stepsL w r → wordBits 10 next ≡ stepsL 8 (wordBits 10 l) → wordBits 10 next ≡ stepsL (w + 8) r
-eight-later r w l next e e′ = e′ ∙ ap (stepsL 8) e ∙ sym (stepsL-add w 8 r)
-
-pub forty-bits : (l l8 l16 l24 l32 : ℕ) → wordBits 10 l8 ≡ stepsL 8 (wordBits 10 l) → wordBits 10 l16 ≡ stepsL 8 (wordBits 10 l8)
-    → wordBits 10 l24 ≡ stepsL 8 (wordBits 10 l16) → wordBits 10 l32 ≡ stepsL 8 (wordBits 10 l24)
+pub forty-bits : (l l8 l16 l24 l32 : ℕ) → SteppedL 8 l l8 → SteppedL 8 l8 l16 → SteppedL 8 l16 l24 → SteppedL 8 l24 l32
     → Begins 40 (wordBits 10 l) (l % 2 ^ 8 + l8 % 2 ^ 8 * 2 ^ 8 + l16 % 2 ^ 8 * 2 ^ 16 + l24 % 2 ^ 8 * 2 ^ 24 + l32 % 2 ^ 8 * 2 ^ 32)
 forty-bits l l8 l16 l24 l32 e8 f16 f24 f32 =
     let r : List ℕ = wordBits 10 l in
-    let e16 : wordBits 10 l16 ≡ stepsL 16 r = eight-later r 8 l8 l16 e8 f16 in
-    let e24 : wordBits 10 l24 ≡ stepsL 24 r = eight-later r 16 l16 l24 e16 f24 in
-    let e32 : wordBits 10 l32 ≡ stepsL 32 r = eight-later r 24 l24 l32 e24 f32 in
+    let e16 : SteppedL 16 l l16 = L-composes .join 8 8 l l8 l16 e8 f16 in
+    let e24 : SteppedL 24 l l24 = L-composes .join 16 8 l l16 l24 e16 f24 in
+    let e32 : SteppedL 32 l l32 = L-composes .join 24 8 l l24 l32 e24 f32 in
     let w8 : ℕ = l % 2 ^ 8 in
     let w16 : ℕ = w8 + l8 % 2 ^ 8 * 2 ^ 8 in
     let w24 : ℕ = w16 + l16 % 2 ^ 8 * 2 ^ 16 in
     let w32 : ℕ = w24 + l24 % 2 ^ 8 * 2 ^ 24 in
     let b8 : Begins 8 r w8 = (mod-lt l (pow-pos 8), firsts-low r 8 l (firsts-eight l)) in
-    let b16 : Begins 16 r w16 = eight-more r 8 w8 l8 b8 e8 in
-    let b24 : Begins 24 r w24 = eight-more r 16 w16 l16 b16 e16 in
-    let b32 : Begins 32 r w32 = eight-more r 24 w24 l24 b24 e24 in
-    eight-more r 32 w32 l32 b32 e32
+    let b16 : Begins 16 r w16 = eight-more r 8 w8 l8 b8 (e8 .stepped) in
+    let b24 : Begins 24 r w24 = eight-more r 16 w16 l16 b16 (e16 .stepped) in
+    let b32 : Begins 32 r w32 = eight-more r 24 w24 l24 b24 (e24 .stepped) in
+    eight-more r 32 w32 l32 b32 (e32 .stepped)
 
 -- 24 steps
 pub forty-further : (l n bits : ℕ) → Begins 40 (stepsL n (wordBits 10 l)) bits

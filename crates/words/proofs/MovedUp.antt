@@ -1,5 +1,4 @@
--- A number of p + w digits moved up by w, with w new digits in front: n % 2 ^ p * 2 ^ w + new. Its bits, and the register before w steps.
--- Assumes nothing.
+-- A number of p + w digits moved up by w, with w new digits below: n % 2 ^ p * 2 ^ w + new. Its bits, and the register before w steps.
 use mathlib.Core.List.{List, [], _∷_, _++_}
 use mathlib.Core.Logic.{⊎-elim, _⊎_, inl, inr}
 use mathlib.Core.Path.{_≡_, refl, sym, ap, ap₂, _∙_}

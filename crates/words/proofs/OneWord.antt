@@ -1,5 +1,5 @@
 -- Sums under a mask of the tap 0 and of taps that four steps read in one word: of a register whose first eight bits are 0 they are the sums
--- of two words. Assumes nothing.
+-- of two words.
 use mathlib.Core.Path.{_≡_, refl, sym, ap, ap₂, _∙_}
 use Prim.Native.Nat.{ℕ, zero, suc, _+_, _*_, _-_, _/_, _%_, _^_, _≤_, _<_}
 use native.Mathlib.Nat.{add-zero, zero-add, suc-add, zero-mul, add-comm, add-assoc, mul-assoc, add-mul, mod-lt, mod-eq-of-lt, div-eq-of-lt, div-one, zero-div, lt-of-le-of-lt, lt-of-lt-of-le}
@@ -13,7 +13,7 @@ use Rattle.quark.specs.Word.{wordBit}
 use Rattle.quark.specs.leaf.Places.{placesFrom}
 use Rattle.quark.proofs.Mask.{ones-under-mask}
 use Rattle.quark.proofs.Word.{wordBit-mod}
-use Rattle.words.specs.leaf.Turns.{OneWord, maskSum, pack}
+use Rattle.words.specs.leaf.FeedbackWords.{maskSum, pack, OneWord}
 use Rattle.words.proofs.Sums.{pack-lt, pack-from, maskSum-lt}
 
 -- ---- words that are filled bit by bit
@@ -47,7 +47,7 @@ under-mask m a b h e = read a ∙ ap (λ (x : ℕ). bitAnd x (m % 2 ^ 61)) e ∙
     read : (n : ℕ) → bitAnd n m ≡ bitAnd (n % 2 ^ 61) (m % 2 ^ 61)
     read n = sym (mod-eq-of-lt (lt-of-le-of-lt (and-le-r n m) h)) ∙ and-mod n m 61
 
--- the tap 0 apart from the others
+-- the tap 0 apart whole-word the others
 tap-apart : (n m k : ℕ) → 0 < k → ones (bitAnd n (m * 2 ^ k + 1)) ≡ ones (bitAnd (n / 2 ^ k) m) + ones (n % 2 ^ k % 2)
 tap-apart n m k h =
     ap (λ (x : ℕ). ones (bitAnd x (m * 2 ^ k + 1))) (sym (split n k))
@@ -62,7 +62,7 @@ pub moved-zeros : (w n : ℕ) {v : ℕ} → v ≡ n * 2 ^ w + 0 → v % 2 ^ w �
 moved-zeros w n e = ap (λ (x : ℕ). x % 2 ^ w) e ∙ low n w (pow-pos w)
 
 module _ (n mask first : ℕ) (narrow : OneWord mask first) (zeros : n % 2 ^ 8 ≡ 0) where
-  -- the mask from `first` on
+  -- the mask whole-word `first` on
   abbrev taps : ℕ
   taps = mask / 2 ^ first
 
@@ -84,7 +84,7 @@ module _ (n mask first : ℕ) (narrow : OneWord mask first) (zeros : n % 2 ^ 8 �
       ∙ ap (λ (x : ℕ). wordBit x j) zeros
       ∙ ap (λ (x : ℕ). x % 2) (zero-div (2 ^ j)))
 
-  -- step k + i reads what step i reads in the word from k places further on
+  -- step k + i reads what step i reads in the word whole-word k places further on
   in-word : (k i word : ℕ) → k + i < 8 → i < 4 → word ≡ n / 2 ^ (first + k) % 2 ^ 64 → maskSum n mask (k + i) ≡ maskSum word taps i
   unfolding maskSum
   in-word k i word h g e =
@@ -126,18 +126,18 @@ module _ (n mask first : ℕ) (narrow : OneWord mask first) (zeros : n % 2 ^ 8 �
       let sum : ℕ → ℕ = maskSum n mask in
       let e : m ≡ taps = em ∙ mod-eq-of-lt (lt-of-lt-of-le taps-lt (lit≤ tt)) in
       let under : (x i : ℕ) → maskSum x taps i ≡ maskSum x m i = λ x i. ap (λ (y : ℕ). maskSum x y i) (sym e) in
-      let from : w ≡ n / 2 ^ (first + 0) % 2 ^ 64 = ew ∙ ap (λ (x : ℕ). n / 2 ^ x % 2 ^ 64) (sym (add-zero first)) in
-      let high : pack (λ (j : ℕ). sum (j + 4)) 4 ≡ pack (maskSum v m) 4 =
+      let whole-word : w ≡ n / 2 ^ (first + 0) % 2 ^ 64 = ew ∙ ap (λ (x : ℕ). n / 2 ^ x % 2 ^ 64) (sym (add-zero first)) in
+      let last-four : pack (λ (j : ℕ). sum (j + 4)) 4 ≡ pack (maskSum v m) 4 =
       pack-same (λ (j : ℕ). sum (j + 4)) (maskSum v m) 4 (λ j g. ap sum (add-comm j 4) ∙ in-word 4 j v (omega arith) g ev ∙ under v j) in
-      let low : pack sum 4 ≡ pack (maskSum w m) 4 =
-      pack-same sum (maskSum w m) 4 (λ j g. ap sum (sym (zero-add j)) ∙ in-word 0 j w (omega arith) g from ∙ under w j) in
-      er ∙ ap₂ (λ (x y : ℕ). x * 16 + y) (el ∙ zero-add (pack (maskSum v m) 4) ∙ sym high) (sym low) ∙ sym (pack-cat sum 4 4)
+      let first-four : pack sum 4 ≡ pack (maskSum w m) 4 =
+      pack-same sum (maskSum w m) 4 (λ j g. ap sum (sym (zero-add j)) ∙ in-word 0 j w (omega arith) g whole-word ∙ under w j) in
+      er ∙ ap₂ (λ (x y : ℕ). x * 16 + y) (el ∙ zero-add (pack (maskSum v m) 4) ∙ sym last-four) (sym first-four) ∙ sym (pack-cat sum 4 4)
 
 -- ---- four sums with later ones above them, last step first
 
--- when the steps from j on are done
-abbrev pub Behind : (later word mask j bits : ℕ) → Type 0
-Behind later word mask j bits = bits ≡ later * 2 ^ (4 - j) + pack (maskSum word mask) 4 / 2 ^ j
+-- the bits when the steps whole-word j on are done
+abbrev pub SumsFrom : (later word mask j bits : ℕ) → Type 0
+SumsFrom later word mask j bits = bits ≡ later * 2 ^ (4 - j) + pack (maskSum word mask) 4 / 2 ^ j
 
 double : (c d q b r : ℕ) → d ≡ c * 2 → q * 2 + b ≡ r → (c + q) * 2 + b ≡ d + r
 double c d q b r e f = omega arith
@@ -151,15 +151,15 @@ module _ (later word mask : ℕ) where
   unfolding sums
   sums-lt = pack-lt (maskSum word mask) (maskSum-lt word mask) 4
 
-  pub behind-none : Behind later word mask 4 later
+  pub sums-from-none : SumsFrom later word mask 4 later
   unfolding sums
-  behind-none = sym (ap₂ (λ (x y : ℕ). x + y) (omega arith) (div-eq-of-lt sums-lt) ∙ add-zero later)
+  sums-from-none = sym (ap₂ (λ (x y : ℕ). x + y) (omega arith) (div-eq-of-lt sums-lt) ∙ add-zero later)
 
   -- the next step is step j - 1
-  pub behind-more : (j bits b : ℕ) → 0 < j → j ≤ 4 → Behind later word mask j bits → b ≡ maskSum word mask (j - 1)
-      → Behind later word mask (j - 1) (bits * 2 + b)
+  pub sums-from-more : (j bits b : ℕ) → 0 < j → j ≤ 4 → SumsFrom later word mask j bits → b ≡ maskSum word mask (j - 1)
+      → SumsFrom later word mask (j - 1) (bits * 2 + b)
   unfolding sums
-  behind-more j bits b h more e f =
+  sums-from-more j bits b h more e f =
       let i : ℕ = j - 1 in
       let next : j ≡ i + 1 = omega arith in
       let g : 4 - i ≡ (4 - (i + 1)) + 1 = omega arith in
@@ -169,15 +169,15 @@ module _ (later word mask : ℕ) where
       ∙ double (later * 2 ^ (4 - (i + 1))) (later * 2 ^ (4 - i)) (sums / 2 ^ (i + 1)) (maskSum word mask i) (sums / 2 ^ i) twice
       (pack-from (maskSum word mask) (maskSum-lt word mask) 4 i (omega arith))
 
-  pub behind-lt : (j bits : ℕ) → later < 16 → Behind later word mask j bits → bits < 2 ^ 9
+  pub sums-from-lt : (j bits : ℕ) → later < 16 → SumsFrom later word mask j bits → bits < 2 ^ 9
   unfolding sums
-  behind-lt j bits h e =
+  sums-from-lt j bits h e =
       let a : later * 2 ^ (4 - j) < 2 ^ 8 = lt-of-lt-of-le (shl-lt 4 (4 - j) h) (pow-mono {j = 8} (omega arith)) in
       rw e (add-lt-pow 8 a (lt-of-le-of-lt (shr-le sums j) (lt-of-lt-of-le sums-lt (lit≤ tt))))
 
-  pub behind-all : (j bits : ℕ) → j ≡ 0 → Behind later word mask j bits → bits ≡ later * 16 + pack (maskSum word mask) 4
+  pub sums-from-all : (j bits : ℕ) → j ≡ 0 → SumsFrom later word mask j bits → bits ≡ later * 16 + pack (maskSum word mask) 4
   unfolding sums
-  behind-all j bits none e = e ∙ ap (λ (x : ℕ). later * 2 ^ (4 - x) + sums / 2 ^ x) none ∙ ap (λ (x : ℕ). later * 16 + x) (div-one sums)
+  sums-from-all j bits none e = e ∙ ap (λ (x : ℕ). later * 2 ^ (4 - x) + sums / 2 ^ x) none ∙ ap (λ (x : ℕ). later * 16 + x) (div-one sums)
 
   -- the sum of step i, of a register that is one word, moved down
   pub one-word : (i b : ℕ) → b ≡ sumAt (wordBit (0 * 2 ^ 64 + word / 2 ^ i)) (placesFrom 128 0 (0 * 2 ^ 64 + mask)) % 2 → b ≡ maskSum word mask i

@@ -1,7 +1,7 @@
 -- Sums of bits in words: `&` and `^` at one bit, the bits of a register from a tap on, the parity of the ones under a mask, a word that is
--- filled bit by bit, and the sums of several steps. Assumes nothing.
+-- filled bit by bit, and the sums of several steps.
 use mathlib.Core.Logic.{⊎-elim}
-use mathlib.Core.Path.{_≡_, sym, ap, ap₂, _∙_}
+use mathlib.Core.Path.{_≡_, refl, sym, ap, ap₂, _∙_}
 use Prim.Native.Nat.{ℕ, zero, suc, _+_, _*_, _-_, _/_, _%_, _^_, _≤_, _<_}
 use native.Mathlib.Nat.{add-comm, add-zero, add-mod, mod-lt, mod-eq-of-lt, div-add-mod', div-one, div-eq-of-lt, sub-zero, lt-of-le-of-lt, lt-of-lt-of-le, not-suc-le-zero, eq-or-lt-of-le, le-of-suc-le-suc, pow-suc, mul-comm, zero-lt-suc}
 use native.Mathlib.Omega.{arith}
@@ -13,9 +13,9 @@ use lib.Pow.{pow-pos, pow-mono, shl-lt, shr-le, shr-shr, high, low, split}
 use Rattle.quark.specs.Feedback.{sumAt}
 use Rattle.quark.specs.Word.{wordBit}
 use Rattle.quark.specs.leaf.Places.{placesFrom}
-use Rattle.quark.proofs.Word.{wordBit-and, wordBit-xor, wordBit-shr, wordBit-mod, low-xor}
+use Rattle.quark.proofs.Word.{wordBit-lt, wordBit-and, wordBit-xor, wordBit-shr, wordBit-mod, low-xor}
 use Rattle.quark.proofs.Mask.{ones-under-mask, ones-under-masks}
-use Rattle.words.specs.leaf.Turns.{maskSum, pack}
+use Rattle.words.specs.leaf.FeedbackWords.{maskSum, pack}
 
 -- ---- `&` and `^` under names that stay shut: those of `lib.Bits` unfold to a recursion that names its first number twice
 
@@ -35,24 +35,44 @@ pub bit-⊕ : (a b k : ℕ) → wordBit (a ⊕ b) k ≡ (wordBit a k + wordBit b
 unfolding _⊕_
 bit-⊕ = wordBit-xor
 
+-- ---- a word's bit as a sum of bits
+
+-- bit k of a word is the parity of a
+pub record Sum (k word a : ℕ) : Type 0 where
+  pub bit : wordBit word k ≡ a % 2
+
+-- that of a bit is the bit
+pub same-bit : (n i : ℕ) {k word : ℕ} → wordBit word k ≡ wordBit n i → Sum k word (wordBit n i)
+same-bit n i e = record { bit = e ∙ sym (mod-eq-of-lt (wordBit-lt n i)) }
+
+pub itself : (word k : ℕ) → Sum k word (wordBit word k)
+itself word k = same-bit word k refl
+
 -- words are added bit by bit
-pub xor-sum : (k p q a b : ℕ) → wordBit p k ≡ a % 2 → wordBit q k ≡ b % 2 → wordBit (bitXor p q) k ≡ (a + b) % 2
-xor-sum k p q a b ha hb = wordBit-xor p q k ∙ ap₂ (λ (x y : ℕ). (x + y) % 2) ha hb ∙ sym (add-mod a b 2)
+pub _⊞_ : {k p q a b : ℕ} → Sum k p a → Sum k q b → Sum k (bitXor p q) (a + b)
+_⊞_ {k} {p} {q} {a} {b} s t = record { bit = wordBit-xor p q k ∙ ap₂ (λ (x y : ℕ). (x + y) % 2) (s .bit) (t .bit) ∙ sym (add-mod a b 2) }
+
+infixl 65 _⊞_
+-- the w low bits of a word
+pub low-lt : (word w : ℕ) {r : ℕ} → r ≡ word % 2 ^ w → r < 2 ^ w
+low-lt word w e = rw e (mod-lt word (pow-pos w))
+
+pub low-sum : (w : ℕ) {k word a r : ℕ} → r ≡ word % 2 ^ w → k < w → Sum k word a → wordBit r k ≡ a % 2
+low-sum w {k} {word} e less s = ap (λ (x : ℕ). wordBit x k) e ∙ wordBit-mod word w k less ∙ s .bit
 
 -- ---- a register from a tap on
 
--- bit k of a window at t is bit t of the register moved by k
-pub seen : (n t k : ℕ) {r : ℕ} → k < 64 → r ≡ n / 2 ^ t % 2 ^ 64 → wordBit r k ≡ wordBit (n / 2 ^ k) t
-seen n t k h e =
-    ap (λ (x : ℕ). wordBit x k) e
-    ∙ wordBit-mod (n / 2 ^ t) 64 k h
-    ∙ wordBit-shr n t k
-    ∙ ap (wordBit n) (add-comm t k)
-    ∙ sym (wordBit-shr n k t)
+-- bit k of a window at t is bit t + k of the register
+pub window-place : (n t k : ℕ) {r : ℕ} → k < 64 → r ≡ n / 2 ^ t % 2 ^ 64 → wordBit r k ≡ wordBit n (t + k)
+window-place n t k h e = ap (λ (x : ℕ). wordBit x k) e ∙ wordBit-mod (n / 2 ^ t) 64 k h ∙ wordBit-shr n t k
+
+-- and so bit t of the register moved down by k
+pub window-bit : (n t k : ℕ) {r : ℕ} → k < 64 → r ≡ n / 2 ^ t % 2 ^ 64 → wordBit r k ≡ wordBit (n / 2 ^ k) t
+window-bit n t k h e = window-place n t k h e ∙ ap (wordBit n) (add-comm t k) ∙ sym (wordBit-shr n k t)
 
 -- the low word's bits are the register's
-pub seen-low : (hi lo k : ℕ) → lo < 2 ^ 64 → k < 64 → wordBit lo k ≡ wordBit ((hi * 2 ^ 64 + lo) / 2 ^ k) 0
-seen-low hi lo k h g =
+pub low-word-bit : (hi lo k : ℕ) → lo < 2 ^ 64 → k < 64 → wordBit lo k ≡ wordBit ((hi * 2 ^ 64 + lo) / 2 ^ k) 0
+low-word-bit hi lo k h g =
     let n : ℕ = hi * 2 ^ 64 + lo in
     ap (λ (z : ℕ). wordBit z k) (sym (low hi 64 h)) ∙ wordBit-mod n 64 k g ∙ ap (wordBit n) (sym (add-zero k)) ∙ sym (wordBit-shr n k 0)
 
@@ -98,7 +118,7 @@ pub mask-fits : (mask i : ℕ) → mask < 2 ^ 112 → i ≤ 16 → mask * 2 ^ i 
 mask-fits mask i h g = lt-of-lt-of-le (shl-lt 112 i h) (pow-mono {j = 128} (omega arith))
 
 -- so the sum of step i is the parity under the mask moved up by i
-pub maskSum-moved : (n mask i : ℕ) → mask < 2 ^ 112 → i ≤ 16 → sumAt (wordBit n) (placesFrom 128 0 (mask * 2 ^ i)) % 2 ≡ maskSum n mask i
+maskSum-moved : (n mask i : ℕ) → mask < 2 ^ 112 → i ≤ 16 → sumAt (wordBit n) (placesFrom 128 0 (mask * 2 ^ i)) % 2 ≡ maskSum n mask i
 unfolding maskSum
 maskSum-moved n mask i h g =
     ap (λ (x : ℕ). x % 2)

@@ -1,4 +1,4 @@
--- A number of two words of W digits, hi * 2 ^ W + lo: seen from a place on, and moved down with new digits behind. Assumes nothing.
+-- A number of two words of W digits, hi * 2 ^ W + lo: its digits from a place on, and the number moved down and up with new digits.
 use mathlib.Core.Path.{_≡_, sym, ap, ap₂, _∙_, subst}
 use Prim.Native.Nat.{ℕ, zero, _+_, _-_, _*_, _/_, _%_, _^_, _≤_, _<_}
 use native.Mathlib.Nat.{mul-assoc, add-mul, add-assoc, mul-mod-left, mod-eq-of-lt, add-zero, add-comm, mul-add-div-right, mul-add-mod-self-right, mul-right-comm, div-one, lt-of-le-of-lt, lt-of-lt-of-le}
@@ -110,7 +110,7 @@ words-shl W n hi lo g h =
     ∙ mul-add-mod-self-right (hi * 2 ^ n) (2 ^ W) (lo * 2 ^ n)) in
     ap₂ (λ (x y : ℕ). x * 2 ^ W + y) (ap (λ (x : ℕ). x % 2 ^ W) above ∙ mod-eq-of-lt (shr-lt W W h)) below ∙ split (v * 2 ^ n) W
 
--- a number moved up by w, with w new digits in front; its q digits of the high word are those below place p. The high word is moved up and
+-- a number moved up by w, with w new digits below; its q digits of the high word are those below place p. The high word is moved up and
 -- down again by e, so that what is above falls out.
 pub pull-words : (W q r w e p hi lo new : ℕ) → r + w ≡ W → q + e ≡ W → q + r ≡ p → lo < 2 ^ W → new < 2 ^ w
     → (hi * 2 ^ W + lo) / 2 ^ r % 2 ^ W * 2 ^ e % 2 ^ W / 2 ^ e * 2 ^ W + bitOr new (lo * 2 ^ w % 2 ^ W) ≡ (hi * 2 ^ W + lo) % 2 ^ p * 2 ^ w + new

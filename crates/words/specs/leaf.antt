@@ -1,2 +1,4 @@
 -- Forms that only the contracts of private functions cite.
-pub mod Turns
+pub mod FeedbackWords
+pub mod Groups
+pub mod Solving

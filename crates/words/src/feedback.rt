@@ -1,6 +1,7 @@
-// f, g and h for all steps of a turn at once (document 01, "Taps and feedback"): bit k of a word is the bit of step k. The linear taps of f
-// and g are counted under a mask, step by step. The products, and the bits that h adds by themselves, are `&` and `^` of the register's
+// f, g and h for all steps of a group at once (document 01, "Taps and feedback"): bit k of a word is the bit of step k. The linear taps of
+// f and g are counted under a mask, step by step. The products, and the bits that h adds by themselves, are `&` and `^` of the register's
 // words from each tap on. The taps are literals where they are used: so they become shifts by constants.
+ghost use mathlib.Core.List.{[], _∷_};
 ghost use mathlib.Core.Path.{_≡_};
 ghost use Prim.Native.Nat.{ℕ, _+_, _*_, _%_, _^_, _≤_, _<_};
 ghost use Rattle.quark.specs.Feedback.{sumAt, h};
@@ -8,14 +9,15 @@ ghost use Rattle.quark.specs.Instance.{U, D, S};
 ghost use Rattle.quark.specs.Word.{wordBit};
 ghost use Rattle.quark.specs.leaf.Places.{placesFrom};
 ghost use Rattle.words.specs.Words.{value};
-ghost use Rattle.words.specs.leaf.Turns.{inStep, products, mixes, ProductBits, Rest, OneWord, maskSum, pack};
+ghost use Rattle.words.specs.leaf.FeedbackWords.{inStep, products, ProductBits, maskSum, pack, MaskSums, OneWord, mixes};
 use crate::Register;
+use crate::masks::Masks;
 use crate::registers::down;
 use crate::registers::up;
 use crate::registers::window;
 
-// A word for X and a word for Y.
-pub struct Gains {
+// Bits of X and of Y, or of f and of g, for the steps of a group: bit k of a word is the bit of step k.
+pub struct StepBits {
     pub x: u64,
     pub y: u64,
 }
@@ -94,7 +96,7 @@ fn mixed(l: u64, y3: u64, x25: u64, x46: u64, x55: u64, y59: u64) -> u64
         ^ (l & x25)
 }
 
-// The same at taps of the registers.
+// h without the bits of X and Y that it adds by themselves, at taps of the registers.
 fn mixed_at(
     x: Register,
     y: Register,
@@ -119,111 +121,75 @@ fn mixed_at(
 }
 
 // The sum of the bits at three taps.
-fn three(r: Register, s: u32, t: u32, u: u32) -> u64
+fn three_taps(r: Register, s: u32, t: u32, u: u32) -> u64
     requires { ⌜ (s < 128) × (t < 128) × (u < 128) ⌝ }
-    ensures { λ w. ⌜ ((k : ℕ) → k < 64 → wordBit w k ≡ (inStep k r s + inStep k r t + inStep k r u) % 2) ⌝ }
+    ensures { λ w. ⌜ ((k : ℕ) → k < 64 → wordBit w k ≡ sumAt (inStep k r) (s ∷ t ∷ u ∷ []) % 2) ⌝ }
 {
     window(r, s) ^ window(r, t) ^ window(r, u)
 }
 
-// h of U; bit k of l is L's first bit in step k.
+// h of U; bit k of l is L0 in step k.
 pub fn h_u(x: Register, y: Register, l: u64) -> u64
     ensures { λ w. ⌜ ((k : ℕ) → k < 64 → wordBit w k ≡ h (U .taps) (inStep k x) (inStep k y) (λ i. wordBit l k)) ⌝ }
 {
     mixed_at(x, y, l, 3, 25, 46, 55, 59)
-        ^ three(x, 1, 4, 25)
+        ^ three_taps(x, 1, 4, 25)
         ^ window(x, 31)
         ^ window(x, 56)
-        ^ three(y, 2, 10, 43)
+        ^ three_taps(y, 2, 10, 43)
         ^ window(y, 59)
 }
 
-// h of D.
+// h of D; bit k of l is L0 in step k.
 pub fn h_d(x: Register, y: Register, l: u64) -> u64
     ensures { λ w. ⌜ ((k : ℕ) → k < 64 → wordBit w k ≡ h (D .taps) (inStep k x) (inStep k y) (λ i. wordBit l k)) ⌝ }
 {
     mixed_at(x, y, l, 4, 35, 57, 68, 79)
-        ^ three(x, 1, 5, 35)
-        ^ three(x, 40, 48, 72)
-        ^ three(y, 2, 12, 24)
-        ^ three(y, 55, 61, 79)
+        ^ three_taps(x, 1, 5, 35)
+        ^ three_taps(x, 40, 48, 72)
+        ^ three_taps(y, 2, 12, 24)
+        ^ three_taps(y, 55, 61, 79)
 }
 
-// h of S.
+// h of S; bit k of l is L0 in step k.
 pub fn h_s(x: Register, y: Register, l: u64) -> u64
     ensures { λ w. ⌜ ((k : ℕ) → k < 64 → wordBit w k ≡ h (S .taps) (inStep k x) (inStep k y) (λ i. wordBit l k)) ⌝ }
 {
     mixed_at(x, y, l, 8, 47, 72, 100, 111)
-        ^ three(x, 1, 7, 47)
-        ^ three(x, 58, 90, 105)
-        ^ three(y, 3, 18, 34)
-        ^ three(y, 71, 80, 91)
+        ^ three_taps(x, 1, 7, 47)
+        ^ three_taps(x, 58, 90, 105)
+        ^ three_taps(y, 3, 18, 34)
+        ^ three_taps(y, 71, 80, 91)
         ^ window(y, 111)
 }
 
 // The products of f and g of U.
-pub fn products_u(x: Register, y: Register) -> Gains
+pub fn products_u(x: Register, y: Register) -> StepBits
     ensures { λ w. ⌜ ((k : ℕ) → k < 64 → ProductBits (U .taps) x y w k) ⌝ }
 {
-    Gains {
+    StepBits {
         x: products_at(x, 9, 15, 21, 28, 33, 37, 45, 52, 55, 59),
         y: products_at(y, 7, 15, 20, 30, 35, 37, 42, 51, 54, 58),
     }
 }
 
-// What X and Y of U gain, but for the linear taps of f and g.
-pub fn rest_u(x: Register, y: Register, l: u64) -> Gains
-    ensures { λ w. ⌜ ((k : ℕ) → k < 64 → Rest (U .taps) x y l w k) ⌝ }
-{
-    let products = products_u(x, y);
-    let h = h_u(x, y, l);
-    Gains {
-        x: y.lo ^ products.x ^ h,
-        y: products.y ^ h,
-    }
-}
-
 // The products of f and g of D.
-pub fn products_d(x: Register, y: Register) -> Gains
+pub fn products_d(x: Register, y: Register) -> StepBits
     ensures { λ w. ⌜ ((k : ℕ) → k < 64 → ProductBits (D .taps) x y w k) ⌝ }
 {
-    Gains {
+    StepBits {
         x: products_at(x, 11, 19, 27, 36, 42, 47, 58, 67, 71, 79),
         y: products_at(y, 9, 19, 25, 38, 44, 47, 54, 67, 69, 78),
     }
 }
 
-// The same of D.
-pub fn rest_d(x: Register, y: Register, l: u64) -> Gains
-    ensures { λ w. ⌜ ((k : ℕ) → k < 64 → Rest (D .taps) x y l w k) ⌝ }
-{
-    let products = products_d(x, y);
-    let h = h_d(x, y, l);
-    Gains {
-        x: y.lo ^ products.x ^ h,
-        y: products.y ^ h,
-    }
-}
-
 // The products of f and g of S.
-pub fn products_s(x: Register, y: Register) -> Gains
+pub fn products_s(x: Register, y: Register) -> StepBits
     ensures { λ w. ⌜ ((k : ℕ) → k < 64 → ProductBits (S .taps) x y w k) ⌝ }
 {
-    Gains {
+    StepBits {
         x: products_at(x, 16, 28, 39, 52, 61, 69, 84, 97, 103, 111),
         y: products_at(y, 13, 28, 37, 56, 65, 69, 79, 96, 101, 109),
-    }
-}
-
-// The same of S.
-pub fn rest_s(x: Register, y: Register, l: u64) -> Gains
-    ensures { λ w. ⌜ ((k : ℕ) → k < 64 → Rest (S .taps) x y l w k) ⌝ }
-{
-    let products = products_s(x, y);
-    let h = h_s(x, y, l);
-    Gains {
-        x: y.lo ^ products.x ^ h,
-        y: products.y ^ h,
     }
 }
 
@@ -276,7 +242,7 @@ fn four_sums(word: u64, mask: u64, later: u64) -> u64
 
 // The sums of the linear taps, as a mask over a register, for eight steps, where the register's first eight bits are 0: so the tap a0 adds
 // nothing. `first` is the first tap past it, and four steps read the taps from there on in one word.
-pub fn sums_past(r: Register, mask: Register, first: u32) -> u64
+fn sums_past(r: Register, mask: Register, first: u32) -> u64
     requires { ⌜ (value r % 2 ^ 8 ≡ 0) × OneWord (value mask) first ⌝ }
     ensures { λ w. ⌜ w ≡ pack (maskSum (value r) (value mask)) 8 ⌝ }
 {
@@ -286,12 +252,24 @@ pub fn sums_past(r: Register, mask: Register, first: u32) -> u64
 }
 
 // The sums of the linear taps of f and of g, as masks over X and Y, for `width` steps.
-pub fn linear(x: Register, y: Register, f: Register, g: Register, width: u32) -> Gains
-    requires { ⌜ (0 < width) × (width ≤ 16) × (value f < 2 ^ 112) × (value g < 2 ^ 112) ⌝ }
-    ensures { λ w. ⌜ (w .x ≡ pack (maskSum (value x) (value f)) width) × (w .y ≡ pack (maskSum (value y) (value g)) width) ⌝ }
+pub fn linear(x: Register, y: Register, masks: Masks, width: u32) -> StepBits
+    requires { ⌜ (0 < width) × (width ≤ 16) × (value (masks .f) < 2 ^ 112) × (value (masks .g) < 2 ^ 112) ⌝ }
+    ensures { λ w. ⌜ MaskSums x y masks width w ⌝ }
 {
-    Gains {
-        x: sums(x, f, width),
-        y: sums(y, g, width),
+    StepBits {
+        x: sums(x, masks.f, width),
+        y: sums(y, masks.g, width),
+    }
+}
+
+// The sums of the linear taps of f and of g, as masks over X and Y, for eight steps, where the first eight bits of X and Y are 0. `f` and
+// `g` are the first taps of f and g past a0.
+pub fn linear_past(x: Register, y: Register, masks: Masks, f: u32, g: u32) -> StepBits
+    requires { ⌜ (value x % 2 ^ 8 ≡ 0) × (value y % 2 ^ 8 ≡ 0) × OneWord (value (masks .f)) f × OneWord (value (masks .g)) g ⌝ }
+    ensures { λ w. ⌜ MaskSums x y masks 8 w ⌝ }
+{
+    StepBits {
+        x: sums_past(x, masks.f, f),
+        y: sums_past(y, masks.g, g),
     }
 }

@@ -1,17 +1,18 @@
-// Several steps together on registers that are words (document 01, "Steps, permutation and inverse"): 8 in a turn for every instance, 16
-// for S. The operations are total: a call that does not fit hands its state back.
+// Several steps together on registers that are words (document 01, "Steps, permutation and inverse"): groups of 8 steps for every instance,
+// and of 16 for S. The operations are total: a call that does not fit hands its state back.
 ghost use mathlib.Core.Bool.{true, false};
 ghost use mathlib.Core.Path.{_≡_};
 ghost use Rattle.quark.specs.Instance.{instanceOf};
 ghost use Rattle.words.specs.Words.{Stepped, Undone, fits};
 
+mod back;
 mod feedback;
 mod fitting;
+mod forward;
+pub mod instances;
 mod masks;
 mod registers;
 mod strides;
-mod turns;
-mod turns_back;
 
 // X or Y as the number hi * 2 ^ 64 + lo, with bit i at weight 2 ^ i; or a mask over it.
 pub struct Register {
@@ -20,7 +21,7 @@ pub struct Register {
 }
 
 // X, Y and L; L is a number below 1024 with bit i at weight 2 ^ i.
-pub struct State {
+pub struct RegisterWords {
     pub x: Register,
     pub y: Register,
     pub l: u64,
@@ -29,32 +30,28 @@ pub struct State {
 // The state `count` steps on, `width` taken together. A call fits where the number is an instance's, the width is 8, or 16 for S, the count
 // is a multiple of it, X and Y have no bits past the half, and L is below 1024.
 // A call that does not fit gives the state as it was.
-pub fn run(instance: u32, width: u32, count: u32, state: State) -> State
+pub fn run(instance: u32, width: u32, count: u32, state: RegisterWords) -> RegisterWords
     ensures taken { λ r. ⌜ (fits instance width count state ≡ true → Stepped (instanceOf instance .taps) count (state .x) (state .y) (state .l) r) ⌝ }
     ensures left { λ r. ⌜ (fits instance width count state ≡ false → r ≡ state) ⌝ }
 {
     if !fitting::fits(instance, width, count, state) {
         return state;
     }
-    let x = state.x;
-    let y = state.y;
-    turns::turns(x, y, state.l, instance, width, count / width)
+    forward::groups(state.x, state.y, state.l, instance, width, count / width)
 }
 
-// The state `count` steps before, `width` undone in a turn; state.l is what L was before them, and comes back. The same calls fit.
+// The state `count` steps before, `width` undone together; state.l is what L was before them, and comes back. The same calls fit.
 // A call that does not fit gives the state as it was.
-pub fn undo(instance: u32, width: u32, count: u32, state: State) -> State
+pub fn undo(instance: u32, width: u32, count: u32, state: RegisterWords) -> RegisterWords
     ensures taken { λ r. ⌜ (fits instance width count state ≡ true → Undone (instanceOf instance .taps) count (state .x) (state .y) (state .l) r) ⌝ }
     ensures left { λ r. ⌜ (fits instance width count state ≡ false → r ≡ state) ⌝ }
 {
     if !fitting::fits(instance, width, count, state) {
         return state;
     }
-    let x = state.x;
-    let y = state.y;
-    turns_back::turns_back(
-        x,
-        y,
+    back::groups_back(
+        state.x,
+        state.y,
         strides::ahead(state.l, count / 8),
         instance,
         width,

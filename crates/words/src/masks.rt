@@ -1,7 +1,7 @@
 // The linear taps of f and g as masks over X and Y (document 01, "Taps and feedback"): the places of a mask's ones are the taps.
 ghost use Rattle.quark.specs.Instance.{U, D, S};
 ghost use Rattle.words.specs.Words.{value};
-ghost use Rattle.words.specs.leaf.Turns.{Masking, OneWord};
+ghost use Rattle.words.specs.leaf.FeedbackWords.{Masking, OneWord};
 use crate::Register;
 
 // A mask over X for f, and a mask over Y for g.

@@ -3,6 +3,7 @@
 ghost use mathlib.Core.Path.{_≡_};
 ghost use Prim.Native.Nat.{_+_, _*_, _/_, _%_, _^_, _≤_, _<_};
 ghost use Rattle.words.specs.Words.{value};
+ghost use Rattle.words.specs.leaf.Groups.{Width};
 use crate::Register;
 
 // The 64 bits of a register from bit t on, 0 past its end.
@@ -42,33 +43,41 @@ pub fn up(r: Register, n: u32) -> Register
     }
 }
 
-// A register of place + width bits moved down by width, with the width bits of `new` behind.
-pub fn push(r: Register, new: u64, place: u32, width: u32) -> Register
-    requires { ⌜ (value r < 2 ^ (width + place)) × (new < 2 ^ width) × (0 < place) × (0 < width) × (width < 64) × (place < 128) × (width + place ≤ 128) ⌝ }
-    ensures { λ d. ⌜ value d ≡ new * 2 ^ place + value r / 2 ^ width ⌝ }
+// A register of kept + width bits moved down by width, with the width bits of `new` after those that are kept.
+pub fn push(r: Register, new: u64, kept: u32, width: u32) -> Register
+    requires { ⌜ (value r < 2 ^ (width + kept)) × (new < 2 ^ width) × (0 < kept) × (0 < width) × (width < 64) × (kept < 128) × (width + kept ≤ 128) ⌝ }
+    ensures { λ d. ⌜ value d ≡ new * 2 ^ kept + value r / 2 ^ width ⌝ }
 {
     let lo = window(r, width);
-    if place < 64 {
+    if kept < 64 {
         Register {
-            hi: new >> (64 - place),
-            lo: lo | (new << place),
+            hi: new >> (64 - kept),
+            lo: lo | (new << kept),
         }
     } else {
         Register {
-            hi: (r.hi >> width) | (new << (place - 64)),
+            hi: (r.hi >> width) | (new << (kept - 64)),
             lo: lo,
         }
     }
 }
 
-// A register of place + width bits moved up by width, with the width bits of `new` in front; its last width bits drop out.
-pub fn pull(r: Register, new: u64, place: u32, width: u32) -> Register
-    requires { ⌜ (new < 2 ^ width) × (0 < width) × (width < 64) × (64 < width + place) × (width + place ≤ 128) ⌝ }
-    ensures { λ d. ⌜ value d ≡ value r % 2 ^ place * 2 ^ width + new ⌝ }
+// A register of kept + width bits moved up by width, with the width bits of `new` before those that are kept; its last width bits drop out.
+pub fn pull(r: Register, new: u64, kept: u32, width: u32) -> Register
+    requires { ⌜ (new < 2 ^ width) × (0 < width) × (width < 64) × (64 < width + kept) × (width + kept ≤ 128) ⌝ }
+    ensures { λ d. ⌜ value d ≡ value r % 2 ^ kept * 2 ^ width + new ⌝ }
 {
-    let above = 128 - width - place;
+    let above = 128 - width - kept;
     Register {
         hi: (window(r, 64 - width) << above) >> above,
         lo: new | (r.lo << width),
     }
+}
+
+// The lowest 8 or 16 bits of a word.
+pub fn low_bits(word: u64, width: u32) -> u64
+    requires { ⌜ Width width ⌝ }
+    ensures { λ r. ⌜ r ≡ word % 2 ^ width ⌝ }
+{
+    if width == 8 { word % 256 } else { word % 65536 }
 }

@@ -117,7 +117,7 @@ fn the_headers_refusals_match_the_rattle_sources() {
         .filter_map(|definition| definition.split_once(' '))
         .collect();
 
-    let lines: String = ["permutation", "sponge", "records", "journal"]
+    let lines: String = ["refusals", "permutation", "sponge", "records", "journal"]
         .map(|name| fs::read_to_string(format!("{}/../../crates/{name}/src/lines.rt", env!("CARGO_MANIFEST_DIR"))).unwrap())
         .concat();
     let constants = lines.lines().filter_map(|line| line.strip_prefix("pub ").unwrap_or(line).strip_prefix("const "));

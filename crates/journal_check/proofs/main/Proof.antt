@@ -1,12 +1,12 @@
--- `main` meets its contract: it is safe and ends. Assumes nothing.
+-- `main` meets its contract: it is safe and ends.
 use mathlib.Core.List.{List}
 use mathlib.Core.Path.{_≡_}
 use Prim.Native.Nat.{ℕ, _-_, _≤_}
 use lib.ListN.{length, replicate, length-append}
-use Rattle.journal.specs.declared.Line.{Line}
-use Rattle.journal.specs.Report.{lineHolding, reportLine}
 use native.Mathlib.Omega.{arith}
 use borrow.Author.Needs.{needs}
+use Rattle.journal.specs.declared.Printed.{Printed}
+use Rattle.journal.specs.Report.{reportText, holding}
 use Rattle.journal_check.proofs.main.Statement.{statement}
 use Rattle.journal_check.proofs.main.Tie as tie
 
@@ -34,13 +34,13 @@ sub-write-all c = search needs
 part-write-all-start : tie.Need-part-write-all-start
 part-write-all-start c = search needs
 
--- a line's text is within its bytes
-within : (line : Line) (text : List ℕ) → line ≡ lineHolding text → line .len ≤ length (line .bytes)
-unfolding lineHolding
-within line text e = rw e (omega (arith, length-append text (replicate (32 - length text) 0)))
+-- the text is within the bytes that hold it
+within : (printed : Printed) (text : List ℕ) → printed ≡ holding text → printed .len ≤ length (printed .bytes)
+unfolding holding
+within printed text e = rw e (omega (arith, length-append text (replicate (32 - length text) 0)))
 
 part-write-all-end : tie.Need-part-write-all-end
-part-write-all-end c = within (c .before .before .report .result) (reportLine _) (c .before .before .report .ensures)
+part-write-all-end c = within (c .before .before .report .result) (reportText _) (c .before .before .report .ensures)
 
 write-all-requires : tie.Need-write-all-requires
 write-all-requires c κs = search needs

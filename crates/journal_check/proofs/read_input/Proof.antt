@@ -1,4 +1,4 @@
--- `read_input` meets its contract. The loop's invariant: the bytes read are within the buffer. Assumes nothing.
+-- `read_input` meets its contract. The loop's invariant: the bytes read are within the buffer.
 use mathlib.Core.Path.{_≡_}
 use Prim.Native.Nat.{_≤_, _-_}
 use lib.ListN.{length}

@@ -1,6 +1,6 @@
--- `invert` meets its contract: it is `overwrite`, by P's inverse. Assumes nothing.
+-- `invert` meets its contract: it is `overwrite`, by P's inverse.
 use borrow.Author.Needs.{needs}
-use Rattle.permutation.specs.leaf.Core.{turned}
+use Rattle.permutation.specs.leaf.Core.{permuted}
 use Rattle.permutation.proofs.invert.Statement.{statement}
 use Rattle.permutation.proofs.invert.Tie as tie
 
@@ -11,7 +11,7 @@ same-length : tie.Need-same-length
 same-length c = search needs
 
 returns : tie.Need-returns
-unfolding turned
+unfolding permuted
 returns c = c .before .before .overwrite .ensures
 
 pub invert-spec : {M : Type 1} → statement M

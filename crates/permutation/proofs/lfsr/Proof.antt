@@ -1,4 +1,4 @@
--- `lfsr` meets its contract: L's steps from all ones, mirrored. Assumes nothing.
+-- `lfsr` meets its contract: L's steps from all ones, mirrored.
 use mathlib.Core.Path.{ap, _∙_}
 use native.Mathlib.Omega.{arith}
 use borrow.Author.Needs.{needs}

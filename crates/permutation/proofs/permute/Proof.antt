@@ -1,6 +1,6 @@
--- `permute` meets its contract: it is `overwrite`, by P. Assumes nothing.
+-- `permute` meets its contract: it is `overwrite`, by P.
 use borrow.Author.Needs.{needs}
-use Rattle.permutation.specs.leaf.Core.{turned}
+use Rattle.permutation.specs.leaf.Core.{permuted}
 use Rattle.permutation.proofs.permute.Statement.{statement}
 use Rattle.permutation.proofs.permute.Tie as tie
 
@@ -11,7 +11,7 @@ same-length : tie.Need-same-length
 same-length c = search needs
 
 returns : tie.Need-returns
-unfolding turned
+unfolding permuted
 returns c = c .before .before .overwrite .ensures
 
 pub permute-spec : {M : Type 1} → statement M

@@ -1,5 +1,5 @@
 -- The registers that stand in the cells of the serial form, and what its functions leave. Only the contracts of private functions cite
--- these forms. Assumes nothing.
+-- these forms.
 use mathlib.Core.Path.{_≡_}
 use mathlib.Core.List.{List, [], _∷_}
 use Prim.Native.Nat.{ℕ, _<_}
@@ -15,9 +15,9 @@ use Rattle.permutation.specs.leaf.Core.{Cells}
 unfoldable pub registers : Instance → List ℕ → ℕ → Registers
 registers I cells l = loaded (I .taps) (take (I .b) cells) (wordBits 10 l)
 
--- the taps of thirteen bits that are gathered already
-unfoldable pub places : List ℕ
-places = 0 ∷ 1 ∷ 2 ∷ 3 ∷ 4 ∷ 5 ∷ 6 ∷ 7 ∷ 8 ∷ 9 ∷ 10 ∷ 11 ∷ 12 ∷ []
+-- the taps of f's sum over thirteen bits in a row
+unfoldable pub indices : List ℕ
+indices = 0 ∷ 1 ∷ 2 ∷ 3 ∷ 4 ∷ 5 ∷ 6 ∷ 7 ∷ 8 ∷ 9 ∷ 10 ∷ 11 ∷ 12 ∷ []
 
 -- the five taps of h's products
 pub record Products (T : Taps) (y-low x-low x-mid x-high y-high : ℕ) : Type 0 where
@@ -34,7 +34,7 @@ pub record Fed (T : Taps) (s : Registers) (f-bit g-bit h-bit : ℕ) : Type 0 whe
   pub isH : h-bit ≡ h T (bit (s .X)) (bit (s .Y)) (bit (s .L))
 
 -- after a step, or a step undone: the cells and L's value hold the registers s, and the cells from b on are as they were
-pub record Turned (I : Instance) (s : Registers) (before after : List ℕ) (l : ℕ) : Type 0 where
+pub record CellsHold (I : Instance) (s : Registers) (before after : List ℕ) (l : ℕ) : Type 0 where
   pub holds : registers I after l ≡ s
   pub rest : drop (I .b) after ≡ drop (I .b) before
   pub small : l < 1024

@@ -1,4 +1,4 @@
--- The places of a mask's ones. Only the contracts of private functions and the laws cite these forms. Assumes nothing.
+-- The places of a mask's ones. Only the contracts of private functions and the laws cite these forms.
 use mathlib.Core.List.{List, [], _∷_}
 use Prim.Native.Nat.{ℕ, zero, suc, _/_, _%_}
 

@@ -1,5 +1,5 @@
 -- Several steps together: each register moves down by w, and its w new bits come from the old registers, the bit of step j from the taps
--- moved up by j. Only the contracts of private functions and the laws cite these forms. Assumes nothing.
+-- moved up by j. Only the contracts of private functions and the laws cite these forms.
 use mathlib.Core.List.{_++_}
 use Prim.Native.Nat.{ℕ, _+_, _%_}
 use lib.ListN.{drop}

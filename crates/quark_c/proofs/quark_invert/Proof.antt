@@ -1,7 +1,7 @@
--- `quark_invert` meets its contract: it is `invert`, with the number of its outcome. Assumes nothing.
+-- `quark_invert` meets its contract: it is `invert`, with the number of its outcome.
 use mathlib.Core.Path.{ap, _∙_}
 use borrow.Author.Needs.{needs}
-use Rattle.permutation.specs.Outcome.{numberOf}
+use Rattle.refusals.specs.Outcome.{numberOf}
 use Rattle.quark_c.proofs.quark_invert.Statement.{statement}
 use Rattle.quark_c.proofs.quark_invert.Tie as tie
 

@@ -1,7 +1,7 @@
--- `quark_permute` meets its contract: it is `permute`, with the number of its outcome. Assumes nothing.
+-- `quark_permute` meets its contract: it is `permute`, with the number of its outcome.
 use mathlib.Core.Path.{ap, _∙_}
 use borrow.Author.Needs.{needs}
-use Rattle.permutation.specs.Outcome.{numberOf}
+use Rattle.refusals.specs.Outcome.{numberOf}
 use Rattle.quark_c.proofs.quark_permute.Statement.{statement}
 use Rattle.quark_c.proofs.quark_permute.Tie as tie
 

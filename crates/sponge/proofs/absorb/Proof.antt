@@ -1,8 +1,6 @@
--- `absorb` meets its contract: where no line holds, the state is sound and absorbing, and its bits are taken. Assumes nothing.
+-- `absorb` meets its contract: where no line holds, the state is sound and absorbing, and its bits are taken.
 use mathlib.Core.Path.{sym, ap, _∙_}
 use Prim.Native.Nat.{ℕ}
-use native.Mathlib.Nat.{div-le-self}
-use native.Mathlib.Omega.{arith}
 use denote.Ref.{now}
 use lib.ListN.{length}
 use Rattle.quark.specs.Bytes.{bitsOf}
@@ -29,10 +27,7 @@ unfolding absorbResult
 returns c = c .refuse .ensures ∙ refused-result _ _ _ _ (c .before .before .absorb-line .ensures) (c .before .if1 .taken)
 
 take-bits-requires : tie.Need-take-bits-requires
-take-bits-requires c κs =
-    let s = c .before .before .before .args .state in
-    let p = lines-passed c in
-    (p .ready, p .within, p .room, omega (arith, p .state .runs-are, div-le-self (s .total) (instanceOf (s .instance) .r)))
+take-bits-requires c κs = let p = lines-passed c in (p .ready, p .within, p .room, p .state .runs-are)
 
 accept-requires : tie.Need-accept-requires
 accept-requires c κs = tt

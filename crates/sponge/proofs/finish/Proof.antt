@@ -1,13 +1,11 @@
--- `finish` meets its contract: where no line holds, the state is sound and absorbing, and `close` finishes it. Assumes nothing.
+-- `finish` meets its contract: where no line holds, the state is sound and absorbing, and `close` finishes it.
 use mathlib.Core.Path.{sym, _∙_}
-use native.Mathlib.Nat.{div-le-self}
-use native.Mathlib.Omega.{arith}
 use borrow.Author.Needs.{needs}
 use denote.Ref.{now}
 use lib.ListN.{length}
-use Rattle.quark.specs.Instance.{instanceOf}
+use Rattle.refusals.proofs.Outcome.{refused-left, accepted-left}
 use Rattle.sponge.specs.Outcomes.{finishResult, finishBytes}
-use Rattle.sponge.proofs.Passed.{FinishPassed, finish-passed, refused-result, accepted-result, refused-lent, accepted-lent}
+use Rattle.sponge.proofs.Passed.{FinishPassed, finish-passed, refused-result, accepted-result}
 use Rattle.sponge.proofs.finish.Statement.{statement}
 use Rattle.sponge.proofs.finish.Tie as tie
 
@@ -26,17 +24,11 @@ unfolding finishResult finishBytes
 returns c =
     let e = c .before .before .finish-line .ensures in (
       c .refuse .ensures ∙ refused-result _ _ _ _ e (c .before .if1 .taken),
-      refused-lent _ _ _ (λ z. c .before .if1 .taken (e ∙ z)),
+      refused-left _ _ _ (λ z. c .before .if1 .taken (e ∙ z)),
     )
 
 close-requires : tie.Need-close-requires
-close-requires c κs =
-    let s = c .before .before .before .before .args .state in
-    let p = lines-passed (c .before) in (
-      p .ready,
-      p .fits,
-      omega (arith, p .state .runs-are, p .state .total-within, div-le-self (s .total) (instanceOf (s .instance) .r)),
-    )
+close-requires c κs = let p = lines-passed (c .before) in (p .ready, p .fits, p .state .total-within, p .state .runs-are)
 
 accept-requires : tie.Need-accept-requires
 accept-requires c κs = tt
@@ -49,7 +41,7 @@ unfolding finishResult finishBytes
 returns-2 c =
     let none = sym (c .before .before .before .before .before .before .finish-line .ensures) ∙ c .before .before .before .before .before .if1 .left in
     let done = c .before .before .before .close .ensures in
-    (c .accept .ensures ∙ accepted-result _ _ _ _ none (done .0), done .1 ∙ accepted-lent _ _ _ none)
+    (c .accept .ensures ∙ accepted-result _ _ _ _ none (done .0), done .1 ∙ accepted-left _ _ _ none)
 
 pub finish-spec : {M : Type 1} → statement M
 finish-spec =

@@ -1,10 +1,11 @@
--- `init` meets its contract. Assumes nothing.
+-- `init` meets its contract.
 use mathlib.Core.Bool.{true, false}
 use mathlib.Core.Path.{_≡_, sym, ap, _∙_}
-use Rattle.permutation.specs.Lines.{isInstance, line1, firstLine}
-use Rattle.permutation.specs.Outcome.{accepted, refused, outcome}
+use Rattle.refusals.specs.Lines.{firstLine}
+use Rattle.refusals.specs.Outcome.{accepted, refused, outcome}
+use Rattle.quark.specs.Instance.{isInstance}
+use Rattle.permutation.specs.Lines.{line1}
 use Rattle.sponge.specs.declared.State.{State}
-use Rattle.sponge.specs.Soundness.{allZeros}
 use Rattle.sponge.specs.Outcomes.{initResult, initNumber, resultBy}
 use Rattle.sponge.proofs.init.Statement.{statement}
 use Rattle.sponge.proofs.init.Tie as tie
@@ -32,7 +33,7 @@ refuse-requires : tie.Need-refuse-requires
 refuse-requires c κs = tt
 
 returns-2 : tie.Need-returns-2
-unfolding initResult initNumber firstLine line1 resultBy outcome allZeros
+unfolding initResult initNumber firstLine line1 resultBy outcome
 returns-2 c =
     let unknown : isInstance (c .before .before .before .before .args .instance) ≡ false =
     sym (c .before .before .before .is-instance .ensures) ∙ c .before .before .if1 .left in

@@ -1,4 +1,4 @@
--- `permute_often` is safe and ends. The measure is the number of runs that are left. Assumes nothing.
+-- `permute_often` is safe and ends. The measure is the number of runs that are left.
 use mathlib.Core.Path.{_≡_}
 use Prim.Native.Nat.{_-_}
 use lib.ListN.{length}

@@ -1,14 +1,14 @@
--- `write_lfsr` is safe and ends. The measure is the place, which starts at 10. Assumes nothing.
+-- `write_lfsr` is safe and ends. The measure is i, which starts at 10.
 use Prim.Native.Nat.{_≤_}
 use borrow.Author.Needs.{needs}
 use Rattle.vectors.proofs.write_lfsr.Statement.{statement}
 use Rattle.vectors.proofs.write_lfsr.Tie as tie
 
 abbrev Inv-loop : tie.InvT-loop
-Inv-loop heading steps l place₀ place = place ≤ 10
+Inv-loop heading steps l i₀ i = i ≤ 10
 
 abbrev μ-loop : tie.MeasureT-loop
-μ-loop heading steps l place₀ place = place
+μ-loop heading steps l i₀ i = i
 
 write-all-requires : tie.Need-write-all-requires Inv-loop μ-loop
 write-all-requires c κs = search needs
@@ -19,8 +19,8 @@ lfsr-requires c κs = tt
 loop-holds : tie.Need-loop-holds Inv-loop μ-loop
 loop-holds c = search needs
 
-sub-place : tie.Need-sub-place Inv-loop μ-loop
-sub-place c = search needs
+sub-i : tie.Need-sub-i Inv-loop μ-loop
+sub-i c = search needs
 
 write-bit-requires : tie.Need-write-bit-requires Inv-loop μ-loop
 write-bit-requires c κs = search needs
@@ -39,4 +39,4 @@ returns c = search needs
 
 pub write-lfsr-spec : {M : Type 1} → statement M
 write-lfsr-spec =
-    tie.close (tie.spec Inv-loop μ-loop write-all-requires lfsr-requires loop-holds sub-place write-bit-requires loop-less loop-again write-newline-requires returns)
+    tie.close (tie.spec Inv-loop μ-loop write-all-requires lfsr-requires loop-holds sub-i write-bit-requires loop-less loop-again write-newline-requires returns)

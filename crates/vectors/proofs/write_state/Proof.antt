@@ -1,4 +1,4 @@
--- `write_state` is safe and ends. The measure is the number of bytes that are left. Assumes nothing.
+-- `write_state` is safe and ends. The measure is the number of bytes that are left.
 use Prim.Native.Nat.{_-_}
 use lib.ListN.{length}
 use borrow.Author.Needs.{needs}

@@ -1,4 +1,4 @@
-//! The peer's digest: the Rattle sponge (`crates/sponge/src/pieces.rt`, `squeeze.rt` and what they call) in Rust, bit by bit, over the
+//! The peer's digest: the Rattle sponge (`crates/sponge/src/pieces.rt`, `output.rt` and what they call) in Rust, bit by bit, over the
 //! permutation of the same form.
 use crate::peer;
 
@@ -61,12 +61,12 @@ fn run_p(mut state: State, width: u32) -> State {
 }
 
 fn take_bit(state: State, width: u32, bit: u8) -> State {
-    let mut added = add_bit(state, bit);
-    added.total += 1;
-    if added.total as usize % rate_of(state.instance) == 0 {
-        return run_p(added, width);
+    let mut next = add_bit(state, bit);
+    next.total += 1;
+    if next.total as usize % rate_of(state.instance) == 0 {
+        return run_p(next, width);
     }
-    added
+    next
 }
 
 fn give(state: State, digest: &mut [u8], at: usize) {
@@ -81,11 +81,10 @@ pub fn digest(instance: u32, width: u32, message: &[u8], count: usize, digest: &
     for i in 0..count {
         state = take_bit(state, width, (message[i / 8] >> (7 - i % 8)) % 2);
     }
-    state = run_p(add_bit(state, 1), width);
-    give(state, digest, 0);
-    for given in 1..outputs_of(instance) {
+    state = add_bit(state, 1);
+    for block in 0..outputs_of(instance) {
         state = run_p(state, width);
-        give(state, digest, given * rate_of(instance) / 8);
+        give(state, digest, block * rate_of(instance) / 8);
     }
     state.runs
 }

@@ -1,5 +1,5 @@
-//! The word peer: the Rattle word form (`crates/words`, and `several.rt` of `permutation`) in Rust, with the same turns,
-//! masks, loads and stores, so that the benchmark compares one form in two languages.
+//! The word peer: the Rattle word form (`crates/words`, and `several.rt` of `permutation`) in Rust, with the same groups
+//! of steps, masks, loads and stores, so that the benchmark compares one form in two languages.
 
 /// X or Y as the number hi * 2^64 + lo, or a mask over it.
 #[derive(Clone, Copy)]
@@ -8,9 +8,9 @@ struct Register {
     lo: u64,
 }
 
-/// A word for X and a word for Y.
+/// Bits of X and of Y, or of f and of g, for the steps of a group: bit k of a word is the bit of step k.
 #[derive(Clone, Copy)]
-struct Gains {
+struct StepBits {
     x: u64,
     y: u64,
 }
@@ -81,12 +81,12 @@ fn down(r: Register) -> Register {
 }
 
 #[inline(always)]
-fn push(r: Register, new: u64, place: u32, width: u32) -> Register {
+fn push(r: Register, new: u64, kept: u32, width: u32) -> Register {
     let lo = window(r, width);
-    if place < 64 {
-        Register { hi: new >> (64 - place), lo: lo | (new << place) }
+    if kept < 64 {
+        Register { hi: new >> (64 - kept), lo: lo | (new << kept) }
     } else {
-        Register { hi: (r.hi >> width) | (new << (place - 64)), lo }
+        Register { hi: (r.hi >> width) | (new << (kept - 64)), lo }
     }
 }
 
@@ -95,49 +95,49 @@ fn up(r: Register, n: u32) -> Register {
     Register { hi: window(r, 64 - n), lo: r.lo << n }
 }
 
-/// The mirror of `push`: moved up by `width`, with the bits of `new` in front, and no more than width + place bits.
+/// The mirror of `push`: moved up by `width`, with the bits of `new` before the `kept` bits that stay.
 #[inline(always)]
-fn pull(r: Register, new: u64, place: u32, width: u32) -> Register {
-    let above = 128 - width - place;
+fn pull(r: Register, new: u64, kept: u32, width: u32) -> Register {
+    let above = 128 - width - kept;
     Register { hi: (window(r, 64 - width) << above) >> above, lo: new | (r.lo << width) }
 }
 
 // L in strides.
 
 #[inline(always)]
-fn four(l: u64) -> u64 {
+fn four_steps_of_l(l: u64) -> u64 {
     ((l ^ (l / 8)) % 16) * 64 + l / 16
 }
 
 #[inline(always)]
-fn eight(l: u64) -> u64 {
-    four(four(l))
+fn eight_steps_of_l(l: u64) -> u64 {
+    four_steps_of_l(four_steps_of_l(l))
 }
 
 #[inline(always)]
-fn eight_back(l: u64) -> u64 {
+fn eight_steps_of_l_back(l: u64) -> u64 {
     let m = ((l / 4) ^ (l * 32)) % 256;
     l % 4 * 256 + (m ^ (m / 8) ^ (m / 64))
 }
 
-fn forty(l: u64) -> u64 {
-    let l8 = eight(l);
-    let l16 = eight(l8);
-    let l24 = eight(l16);
-    let l32 = eight(l24);
+fn forty_bits_of_l(l: u64) -> u64 {
+    let l8 = eight_steps_of_l(l);
+    let l16 = eight_steps_of_l(l8);
+    let l24 = eight_steps_of_l(l16);
+    let l32 = eight_steps_of_l(l24);
     l % 256 + l8 % 256 * 0x100 + l16 % 256 * 0x1_0000 + l24 % 256 * 0x100_0000 + l32 % 256 * 0x1_0000_0000
 }
 
-fn far(l: u64, count: u32) -> u64 {
+fn steps_of_l_by_24(l: u64, count: u32) -> u64 {
     let step = |bits, _| (bits ^ (bits / 0x1000)) % 0x100_0000 * 0x1_0000 + bits / 0x100_0000;
-    (0..count).fold(forty(l), step) % 1024
+    (0..count).fold(forty_bits_of_l(l), step) % 1024
 }
 
 fn ahead(l: u64, count: u32) -> u64 {
-    (0..count % 3).fold(far(l, count / 3), |now, _| eight(now))
+    (0..count % 3).fold(steps_of_l_by_24(l, count / 3), |now, _| eight_steps_of_l(now))
 }
 
-// f, g and h for all steps of a turn: bit k of a word is the bit of step k.
+// f, g and h for all steps of a group: bit k of a word is the bit of step k.
 
 #[inline(always)]
 #[rustfmt::skip]
@@ -158,7 +158,7 @@ fn mixed_at(x: Register, y: Register, l: u64, y_low: u32, x_low: u32, x_mid: u32
 }
 
 #[inline(always)]
-fn three(r: Register, s: u32, t: u32, u: u32) -> u64 {
+fn three_taps(r: Register, s: u32, t: u32, u: u32) -> u64 {
     window(r, s) ^ window(r, t) ^ window(r, u)
 }
 
@@ -166,64 +166,46 @@ fn three(r: Register, s: u32, t: u32, u: u32) -> u64 {
 #[rustfmt::skip]
 fn h_u(x: Register, y: Register, l: u64) -> u64 {
     mixed_at(x, y, l, 3, 25, 46, 55, 59)
-        ^ three(x, 1, 4, 25) ^ window(x, 31) ^ window(x, 56) ^ three(y, 2, 10, 43) ^ window(y, 59)
+        ^ three_taps(x, 1, 4, 25) ^ window(x, 31) ^ window(x, 56) ^ three_taps(y, 2, 10, 43) ^ window(y, 59)
 }
 
 #[inline(always)]
 #[rustfmt::skip]
 fn h_d(x: Register, y: Register, l: u64) -> u64 {
     mixed_at(x, y, l, 4, 35, 57, 68, 79)
-        ^ three(x, 1, 5, 35) ^ three(x, 40, 48, 72) ^ three(y, 2, 12, 24) ^ three(y, 55, 61, 79)
+        ^ three_taps(x, 1, 5, 35) ^ three_taps(x, 40, 48, 72) ^ three_taps(y, 2, 12, 24) ^ three_taps(y, 55, 61, 79)
 }
 
 #[inline(always)]
 #[rustfmt::skip]
 fn h_s(x: Register, y: Register, l: u64) -> u64 {
     mixed_at(x, y, l, 8, 47, 72, 100, 111)
-        ^ three(x, 1, 7, 47) ^ three(x, 58, 90, 105) ^ three(y, 3, 18, 34) ^ three(y, 71, 80, 91) ^ window(y, 111)
+        ^ three_taps(x, 1, 7, 47) ^ three_taps(x, 58, 90, 105) ^ three_taps(y, 3, 18, 34) ^ three_taps(y, 71, 80, 91) ^ window(y, 111)
 }
 
 /// The products of f and g.
 #[inline(always)]
-fn products_u(x: Register, y: Register) -> Gains {
-    Gains { x: products_at(x, [9, 15, 21, 28, 33, 37, 45, 52, 55, 59]), y: products_at(y, [7, 15, 20, 30, 35, 37, 42, 51, 54, 58]) }
+fn products_u(x: Register, y: Register) -> StepBits {
+    StepBits {
+        x: products_at(x, [9, 15, 21, 28, 33, 37, 45, 52, 55, 59]),
+        y: products_at(y, [7, 15, 20, 30, 35, 37, 42, 51, 54, 58]),
+    }
 }
 
 #[inline(always)]
-fn products_d(x: Register, y: Register) -> Gains {
-    Gains {
+fn products_d(x: Register, y: Register) -> StepBits {
+    StepBits {
         x: products_at(x, [11, 19, 27, 36, 42, 47, 58, 67, 71, 79]),
         y: products_at(y, [9, 19, 25, 38, 44, 47, 54, 67, 69, 78]),
     }
 }
 
 #[inline(always)]
-fn products_s(x: Register, y: Register) -> Gains {
-    Gains {
+fn products_s(x: Register, y: Register) -> StepBits {
+    StepBits {
         x: products_at(x, [16, 28, 39, 52, 61, 69, 84, 97, 103, 111]),
         y: products_at(y, [13, 28, 37, 56, 65, 69, 79, 96, 101, 109]),
     }
-}
-
-/// What X and Y gain, but for the linear taps of f and g.
-#[inline(always)]
-fn rest(y: Register, products: Gains, h: u64) -> Gains {
-    Gains { x: y.lo ^ products.x ^ h, y: products.y ^ h }
-}
-
-#[inline(always)]
-fn rest_u(x: Register, y: Register, l: u64) -> Gains {
-    rest(y, products_u(x, y), h_u(x, y, l))
-}
-
-#[inline(always)]
-fn rest_d(x: Register, y: Register, l: u64) -> Gains {
-    rest(y, products_d(x, y), h_d(x, y, l))
-}
-
-#[inline(always)]
-fn rest_s(x: Register, y: Register, l: u64) -> Gains {
-    rest(y, products_s(x, y), h_s(x, y, l))
 }
 
 /// The parity of the ones under a mask.
@@ -262,19 +244,33 @@ fn sums_past(r: Register, mask: Register, first: u32) -> u64 {
     four_sums(window(r, first), taps, later)
 }
 
-#[inline(always)]
-fn linear(x: Register, y: Register, f: Register, g: Register, width: u32) -> Gains {
-    Gains { x: sums(x, f, width), y: sums(y, g, width) }
+/// The masks of the linear taps: over X for f, over Y for g.
+#[derive(Clone, Copy)]
+struct Masks {
+    f: Register,
+    g: Register,
 }
 
-// Turns.
+const MASKS_U: Masks = Masks { f: Register { hi: 0, lo: 0x94_2022_1020_4201 }, g: Register { hi: 0, lo: 0x4a_0428_4011_0081 } };
+const MASKS_D: Masks =
+    Masks { f: Register { hi: 0x89, lo: 0x400_8410_0804_0801 }, g: Register { hi: 0x28, lo: 0x8040_9040_0210_0201 } };
+const MASKS_S: Masks = Masks {
+    f: Register { hi: 0x82_4010_0020, lo: 0x2010_0080_0401_0001 },
+    g: Register { hi: 0x21_1000_8022, lo: 0x100_0020_4000_2001 },
+};
 
-const F_U: Register = Register { hi: 0, lo: 0x94_2022_1020_4201 };
-const G_U: Register = Register { hi: 0, lo: 0x4a_0428_4011_0081 };
-const F_D: Register = Register { hi: 0x89, lo: 0x400_8410_0804_0801 };
-const G_D: Register = Register { hi: 0x28, lo: 0x8040_9040_0210_0201 };
-const F_S: Register = Register { hi: 0x82_4010_0020, lo: 0x2010_0080_0401_0001 };
-const G_S: Register = Register { hi: 0x21_1000_8022, lo: 0x100_0020_4000_2001 };
+#[inline(always)]
+fn linear(x: Register, y: Register, masks: Masks, width: u32) -> StepBits {
+    StepBits { x: sums(x, masks.f, width), y: sums(y, masks.g, width) }
+}
+
+/// `linear` for eight steps of registers whose first eight bits are 0; `f` and `g` are the first taps past a0.
+#[inline(always)]
+fn linear_past(x: Register, y: Register, masks: Masks, f: u32, g: u32) -> StepBits {
+    StepBits { x: sums_past(x, masks.f, f), y: sums_past(y, masks.g, g) }
+}
+
+// Groups of steps.
 
 #[inline(always)]
 fn low_bits(word: u64, width: u32) -> u64 {
@@ -286,43 +282,47 @@ fn low_bits(word: u64, width: u32) -> u64 {
 }
 
 #[inline(always)]
+#[rustfmt::skip]
 #[allow(clippy::too_many_arguments)]
-fn turned(x: Register, y: Register, rest: Gains, f: Register, g: Register, place: u32, width: u32, l: u64) -> State {
-    let sums = linear(x, y, f, g, width);
+fn after_group(x: Register, y: Register, products: StepBits, h: u64, masks: Masks, kept: u32, width: u32, l: u64) -> State {
+    let sums = linear(x, y, masks, width);
     State {
-        x: push(x, low_bits(rest.x ^ sums.x, width), place, width),
-        y: push(y, low_bits(rest.y ^ sums.y, width), place, width),
+        x: push(x, low_bits(y.lo ^ products.x ^ h ^ sums.x, width), kept, width),
+        y: push(y, low_bits(products.y ^ h ^ sums.y, width), kept, width),
         l,
     }
 }
 
 #[inline(always)]
-fn turn_u(s: State) -> State {
-    turned(s.x, s.y, rest_u(s.x, s.y, s.l), F_U, G_U, 60, 8, eight(s.l))
+fn group_u(s: State) -> State {
+    let h = h_u(s.x, s.y, s.l);
+    after_group(s.x, s.y, products_u(s.x, s.y), h, MASKS_U, 60, 8, eight_steps_of_l(s.l))
 }
 
 #[inline(always)]
-fn turn_d(s: State) -> State {
-    turned(s.x, s.y, rest_d(s.x, s.y, s.l), F_D, G_D, 80, 8, eight(s.l))
+fn group_d(s: State) -> State {
+    let h = h_d(s.x, s.y, s.l);
+    after_group(s.x, s.y, products_d(s.x, s.y), h, MASKS_D, 80, 8, eight_steps_of_l(s.l))
 }
 
 #[inline(always)]
-fn turn_s(s: State, width: u32) -> State {
-    let next = eight(s.l);
-    let rest = rest_s(s.x, s.y, next * 256 + s.l % 256);
+fn group_s(s: State, width: u32) -> State {
+    let next = eight_steps_of_l(s.l);
+    let h = h_s(s.x, s.y, next * 256 + s.l % 256);
+    let products = products_s(s.x, s.y);
     if width == 8 {
-        turned(s.x, s.y, rest, F_S, G_S, 120, 8, next)
+        after_group(s.x, s.y, products, h, MASKS_S, 120, 8, next)
     } else {
-        turned(s.x, s.y, rest, F_S, G_S, 112, 16, eight(next))
+        after_group(s.x, s.y, products, h, MASKS_S, 112, 16, eight_steps_of_l(next))
     }
 }
 
 #[inline(always)]
-fn turn(s: State, instance: u32, width: u32) -> State {
+fn group(s: State, instance: u32, width: u32) -> State {
     match instance {
-        1 => turn_u(s),
-        2 => turn_d(s),
-        _ => turn_s(s, width),
+        1 => group_u(s),
+        2 => group_d(s),
+        _ => group_s(s, width),
     }
 }
 
@@ -338,25 +338,24 @@ fn run(bits: &mut [u8; 256], instance: u32, width: u32, l: u32, count: u32) {
     let half = half_of(instance);
     let mut s = State { x: load(bits, 0, half), y: load(bits, half, half), l: u64::from(l) };
     for _ in 0..count / width {
-        s = turn(s, instance, width);
+        s = group(s, instance, width);
     }
     save(s.x, bits, 0, half);
     save(s.y, bits, half, half);
 }
 
-// Steps undone: all bits of a turn are found together.
+// Groups undone: the bits of all steps are found together.
 
+/// By how much the products of g, and h, change with the bit at their low tap in Y.
 #[derive(Clone, Copy)]
-struct Parts {
-    f: u64,
+struct Derivatives {
     g: u64,
     h: u64,
-    gslope: u64,
-    hslope: u64,
 }
 
+/// The taps that can reach bits which are to be found.
 #[derive(Clone, Copy)]
-struct Near {
+struct LowTaps {
     x: u32,
     y: u32,
     h: u32,
@@ -364,102 +363,111 @@ struct Near {
 }
 
 #[inline(always)]
-fn g_slope(y: Register, a3: u32, a4: u32, a5: u32, a6: u32, a8: u32, a12: u32) -> u64 {
+fn products_derivative(y: Register, a3: u32, a4: u32, a5: u32, a6: u32, a8: u32, a12: u32) -> u64 {
     let (b3, b5) = (window(y, a3), window(y, a5));
     b3 ^ (b5 & window(y, a8) & window(y, a12)) ^ (b3 & window(y, a4) & b5 & window(y, a6))
 }
 
 #[inline(always)]
-fn h_slope(x: Register, y: Register, x_low: u32, x_mid: u32, x_high: u32, y_high: u32) -> u64 {
+fn mixed_derivative(x: Register, y: Register, x_low: u32, x_mid: u32, x_high: u32, y_high: u32) -> u64 {
     let (high, mid) = (window(x, x_high), window(x, x_mid));
     high ^ (window(x, x_low) & mid) ^ (mid & high) ^ (mid & window(y, y_high))
 }
 
 #[inline(always)]
-fn parts(products: Gains, h: u64, gslope: u64, hslope: u64) -> Parts {
-    Parts { f: products.x, g: products.y, h, gslope, hslope }
+fn derivatives_u(x: Register, y: Register) -> Derivatives {
+    Derivatives { g: products_derivative(y, 15, 20, 30, 35, 42, 58), h: mixed_derivative(x, y, 25, 46, 55, 59) }
 }
 
 #[inline(always)]
-fn parts_u(x: Register, y: Register, l: u64) -> Parts {
-    parts(products_u(x, y), h_u(x, y, l), g_slope(y, 15, 20, 30, 35, 42, 58), h_slope(x, y, 25, 46, 55, 59))
+fn derivatives_d(x: Register, y: Register) -> Derivatives {
+    Derivatives { g: products_derivative(y, 19, 25, 38, 44, 54, 78), h: mixed_derivative(x, y, 35, 57, 68, 79) }
 }
 
 #[inline(always)]
-fn parts_d(x: Register, y: Register, l: u64) -> Parts {
-    parts(products_d(x, y), h_d(x, y, l), g_slope(y, 19, 25, 38, 44, 54, 78), h_slope(x, y, 35, 57, 68, 79))
+fn derivatives_s(x: Register, y: Register) -> Derivatives {
+    Derivatives { g: products_derivative(y, 28, 37, 56, 65, 79, 109), h: mixed_derivative(x, y, 47, 72, 100, 111) }
 }
 
+/// The known terms of the bits that are to be found.
 #[inline(always)]
-fn parts_s(x: Register, y: Register, l: u64) -> Parts {
-    parts(products_s(x, y), h_s(x, y, l), g_slope(y, 28, 37, 56, 65, 79, 109), h_slope(x, y, 47, 72, 100, 111))
+#[rustfmt::skip]
+fn known_terms(x: Register, y: Register, products: StepBits, sums: StepBits, h: u64, kept: u32, width: u32) -> StepBits {
+    let g = window(y, kept) ^ products.y ^ sums.y;
+    StepBits { x: low_bits(window(x, kept) ^ products.x ^ sums.x ^ g, width), y: low_bits(g ^ h, width) }
 }
 
-/// The bits that are found, but for what f, g and h read of them.
+/// The word that is the sum of `known`, of itself moved down by `low`, and of itself moved down by `high` under `factor`.
 #[inline(always)]
-fn known(x: Register, y: Register, parts: Parts, sums: Gains, place: u32, width: u32) -> Gains {
-    let g = window(y, place) ^ parts.g ^ sums.y;
-    Gains { x: low_bits(window(x, place) ^ parts.f ^ sums.x ^ g, width), y: low_bits(g ^ parts.h, width) }
-}
-
-#[inline(always)]
-fn settled(c: u64, slope: u64, near: u32, far: u32, width: u32) -> u64 {
-    let mut word = c;
-    let mut right = near;
+fn solve_word(known: u64, factor: u64, low: u32, high: u32, width: u32) -> u64 {
+    let mut word = known;
+    let mut right = low;
     while right < width {
-        word = c ^ (word >> near) ^ ((word >> far) & slope);
-        right += near;
+        word = known ^ (word >> low) ^ ((word >> high) & factor);
+        right += low;
     }
     word
 }
 
 #[inline(always)]
-fn found(known: Gains, parts: Parts, near: Near, width: u32) -> Gains {
-    let c = known.y ^ (known.x >> 1) ^ (known.x >> near.x);
-    let y = settled(c, parts.hslope, near.y, near.h, width);
-    let read = y >> near.g;
-    let late = read ^ (read & parts.gslope);
-    Gains { x: known.x ^ late, y: y ^ late ^ (late >> 1) }
+fn solve(known: StepBits, derivatives: Derivatives, taps: LowTaps, width: u32) -> StepBits {
+    let without_g = known.y ^ (known.x >> 1) ^ (known.x >> taps.x);
+    let y = solve_word(without_g, derivatives.h, taps.y, taps.h, width);
+    let read = y >> taps.g;
+    let by_g = read ^ (read & derivatives.g);
+    StepBits { x: known.x ^ by_g, y: y ^ by_g ^ (by_g >> 1) }
+}
+
+#[inline(always)]
+#[rustfmt::skip]
+#[allow(clippy::too_many_arguments)]
+fn before_group(x: Register, y: Register, products: StepBits, sums: StepBits, h: u64, derivatives: Derivatives, taps: LowTaps, kept: u32, width: u32, l: u64) -> State {
+    let known = known_terms(x, y, products, sums, h, kept, width);
+    let new = solve(known, derivatives, taps, width);
+    State { x: pull(x, new.x, kept, width), y: pull(y, new.y, kept, width), l }
 }
 
 #[inline(always)]
 fn back_u(s: State) -> State {
-    let l = eight_back(s.l);
+    let l = eight_steps_of_l_back(s.l);
     let (x0, y0) = (pull(s.x, 0, 60, 8), pull(s.y, 0, 60, 8));
-    let parts = parts_u(x0, y0, l);
-    let sums = linear(x0, y0, F_U, G_U, 8);
-    let new = found(known(s.x, s.y, parts, sums, 60, 8), parts, Near { x: 4, y: 2, h: 3, g: 7 }, 8);
-    State { x: pull(s.x, new.x, 60, 8), y: pull(s.y, new.y, 60, 8), l }
+    let products = products_u(x0, y0);
+    let derivatives = derivatives_u(x0, y0);
+    let h = h_u(x0, y0, l);
+    let sums = linear(x0, y0, MASKS_U, 8);
+    before_group(s.x, s.y, products, sums, h, derivatives, LowTaps { x: 4, y: 2, h: 3, g: 7 }, 60, 8, l)
 }
 
 #[inline(always)]
 fn back_d(s: State) -> State {
-    let l = eight_back(s.l);
+    let l = eight_steps_of_l_back(s.l);
     let (x0, y0) = (pull(s.x, 0, 80, 8), pull(s.y, 0, 80, 8));
-    let parts = parts_d(x0, y0, l);
-    let sums = Gains { x: sums_past(x0, F_D, 11), y: sums_past(y0, G_D, 9) };
-    let new = found(known(s.x, s.y, parts, sums, 80, 8), parts, Near { x: 5, y: 2, h: 4, g: 9 }, 8);
-    State { x: pull(s.x, new.x, 80, 8), y: pull(s.y, new.y, 80, 8), l }
+    let products = products_d(x0, y0);
+    let derivatives = derivatives_d(x0, y0);
+    let h = h_d(x0, y0, l);
+    let sums = linear_past(x0, y0, MASKS_D, 11, 9);
+    before_group(s.x, s.y, products, sums, h, derivatives, LowTaps { x: 5, y: 2, h: 4, g: 9 }, 80, 8, l)
 }
 
 #[inline(always)]
-fn back_s(s: State, width: u32, place: u32, l: u64, word: u64) -> State {
-    let (x0, y0) = (pull(s.x, 0, place, width), pull(s.y, 0, place, width));
-    let parts = parts_s(x0, y0, word);
-    let sums = linear(x0, y0, F_S, G_S, width);
-    let new = found(known(s.x, s.y, parts, sums, place, width), parts, Near { x: 7, y: 3, h: 8, g: 13 }, width);
-    State { x: pull(s.x, new.x, place, width), y: pull(s.y, new.y, place, width), l }
+fn back_s(s: State, width: u32, kept: u32, l: u64, word: u64) -> State {
+    let (x0, y0) = (pull(s.x, 0, kept, width), pull(s.y, 0, kept, width));
+    let products = products_s(x0, y0);
+    let derivatives = derivatives_s(x0, y0);
+    let h = h_s(x0, y0, word);
+    let sums = linear(x0, y0, MASKS_S, width);
+    before_group(s.x, s.y, products, sums, h, derivatives, LowTaps { x: 7, y: 3, h: 8, g: 13 }, kept, width, l)
 }
 
 #[inline(always)]
-fn turn_back(s: State, instance: u32, width: u32) -> State {
-    let later = eight_back(s.l);
+fn group_back(s: State, instance: u32, width: u32) -> State {
+    let later = eight_steps_of_l_back(s.l);
     match (instance, width) {
         (1, _) => back_u(s),
         (2, _) => back_d(s),
         (_, 8) => back_s(s, 8, 120, later, later),
         _ => {
-            let before = eight_back(later);
+            let before = eight_steps_of_l_back(later);
             back_s(s, 16, 112, before, later * 256 + before % 256)
         }
     }
@@ -469,7 +477,7 @@ fn undo(bits: &mut [u8; 256], instance: u32, width: u32, l: u32, count: u32) {
     let half = half_of(instance);
     let mut s = State { x: load(bits, 0, half), y: load(bits, half, half), l: ahead(u64::from(l), count / 8) };
     for _ in 0..count / width {
-        s = turn_back(s, instance, width);
+        s = group_back(s, instance, width);
     }
     save(s.x, bits, 0, half);
     save(s.y, bits, half, half);

@@ -1,12 +1,12 @@
--- `bytes::load` meets its contract: after i turns the first i bits are stored. Assumes nothing.
+-- `bytes::load` meets its contract: after i passes the first i bits are stored.
 use mathlib.Core.Path.{_≡_, refl, ap, _∙_}
 use mathlib.Core.List.{List, _++_}
 use Prim.Native.Nat.{ℕ, _-_, _*_, _<_, _≤_}
 use lib.ListN.{length, drop, set, replicate}
-use Rattle.quark.specs.Bytes.{tabulate, bitAt, bitsOf}
-use Rattle.permutation.proofs.Tabulate.{tabulate-store, drop-replicate}
 use native.Mathlib.Omega.{arith}
 use borrow.Author.Needs.{needs}
+use Rattle.quark.specs.Bytes.{tabulate, bitAt, bitsOf}
+use Rattle.permutation.proofs.Tabulate.{tabulate-store, drop-replicate}
 use Rattle.permutation.proofs.bytes.load.Statement.{statement}
 use Rattle.permutation.proofs.bytes.load.Tie as tie
 

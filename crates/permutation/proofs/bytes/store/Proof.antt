@@ -1,12 +1,12 @@
--- `bytes::store` meets its contract: after j turns the first j bytes are stored. Assumes nothing.
+-- `bytes::store` meets its contract: after j passes the first j bytes are stored.
 use mathlib.Core.Path.{_≡_, refl, ap₂, _∙_}
 use mathlib.Core.List.{List, _++_}
 use Prim.Native.Nat.{ℕ, _-_, _≤_}
 use lib.ListN.{length, drop, set, length-set}
-use Rattle.quark.specs.Bytes.{tabulate, byteAt, bytesOf}
-use Rattle.permutation.proofs.Tabulate.{tabulate-store, tabulate-full}
 use native.Mathlib.Omega.{arith}
 use borrow.Author.Needs.{needs}
+use Rattle.quark.specs.Bytes.{tabulate, byteAt, bytesOf}
+use Rattle.permutation.proofs.Tabulate.{tabulate-store, tabulate-full}
 use Rattle.permutation.proofs.bytes.store.Statement.{statement}
 use Rattle.permutation.proofs.bytes.store.Tie as tie
 

@@ -1,4 +1,4 @@
--- `rounds` meets its contract: 4b of the instance that each test leads to. Assumes nothing.
+-- `rounds` meets its contract: 4b of the instance that each test leads to.
 use borrow.Author.Tests.{eq-eqb, ne-eqb}
 use Rattle.quark.specs.Step.{rounds}
 use Rattle.quark.specs.Instance.{instanceOf, U, D, S}

@@ -1,11 +1,12 @@
--- `buffer_line` meets its contract: the calls of `first` are the lines in checking order. Assumes nothing.
+-- `buffer_line` meets its contract: the calls of `first` are the lines in checking order.
 use mathlib.Core.Bool.{not}
 use mathlib.Core.Path.{refl, ap}
 use Prim.Native.Nat.{ℕ}
 use lib.Dec.{eqb}
-use Rattle.permutation.specs.Lines.{line1, line4, line5, firstLine}
+use Rattle.refusals.specs.Lines.{firstLine, line5}
+use Rattle.refusals.proofs.FirstLine.{in-front}
+use Rattle.permutation.specs.Lines.{line1, line4}
 use Rattle.permutation.specs.Permute.{permuteNumber}
-use Rattle.permutation.proofs.Accepted.{in-front}
 use Rattle.permutation.proofs.lines.buffer_line.Statement.{statement}
 use Rattle.permutation.proofs.lines.buffer_line.Tie as tie
 

@@ -1,7 +1,6 @@
--- `state_bytes` meets its contract: b/8 of the instance that each test leads to. Assumes nothing.
+-- `state_bytes` meets its contract: b/8 of the instance that each test leads to.
 use borrow.Author.Tests.{eq-eqb, ne-eqb}
-use Rattle.quark.specs.Instance.{instanceOf, U, D, S}
-use Rattle.permutation.specs.Lines.{stateBytes}
+use Rattle.quark.specs.Instance.{instanceOf, U, D, S, stateBytes}
 use Rattle.permutation.proofs.lines.state_bytes.Statement.{statement}
 use Rattle.permutation.proofs.lines.state_bytes.Tie as tie
 

@@ -1,7 +1,7 @@
--- `serial::next_l` meets its contract. Assumes nothing.
-use Rattle.permutation.proofs.StepL.{step-wordBits}
+-- `register_l::next_l` meets its contract.
 use native.Mathlib.Omega.{arith}
 use borrow.Author.Needs.{needs}
+use Rattle.permutation.proofs.RegisterL.{step-wordBits}
 use Rattle.permutation.proofs.register_l.next_l.Statement.{statement}
 use Rattle.permutation.proofs.register_l.next_l.Tie as tie
 

@@ -1,11 +1,11 @@
--- `serial::run_l` meets its contract: after t turns L has taken t steps. Assumes nothing.
+-- `register_l::run_l` meets its contract: after t passes L has taken t steps.
 use mathlib.Core.Path.{_≡_, refl, sym, ap, _∙_}
 use Prim.Native.Nat.{ℕ, _-_, _<_, _≤_}
 use native.Mathlib.Numerals.{add-one}
-use Rattle.quark.specs.Step.{stepL, stepsL}
-use Rattle.quark.specs.Word.{wordBits}
 use native.Mathlib.Omega.{arith}
 use borrow.Author.Needs.{needs}
+use Rattle.quark.specs.Step.{stepL, stepsL}
+use Rattle.quark.specs.Word.{wordBits}
 use Rattle.permutation.proofs.register_l.run_l.Statement.{statement}
 use Rattle.permutation.proofs.register_l.run_l.Tie as tie
 

@@ -1,7 +1,7 @@
--- `serial::undo_l` meets its contract. Assumes nothing.
-use Rattle.permutation.proofs.StepL.{undo-wordBits}
+-- `register_l::undo_l` meets its contract.
 use native.Mathlib.Omega.{arith}
 use borrow.Author.Needs.{needs}
+use Rattle.permutation.proofs.RegisterL.{undo-wordBits}
 use Rattle.permutation.proofs.register_l.undo_l.Statement.{statement}
 use Rattle.permutation.proofs.register_l.undo_l.Tie as tie
 

@@ -1,10 +1,10 @@
--- `serial::feedback_sum` meets its contract: the polynomial again, in sums and products of bits. Assumes nothing.
+-- `serial::feedback_sum` meets its contract: the polynomial again, in sums and products of bits.
 use Prim.Native.Nat.{ℕ}
+use borrow.Author.Needs.{needs}
 use Rattle.quark.specs.Bytes.{bit}
 use Rattle.quark.specs.Feedback.{feedback}
-use Rattle.permutation.specs.leaf.Serial.{places}
+use Rattle.permutation.specs.leaf.Serial.{indices}
 use Rattle.permutation.proofs.SingleBits.{Product, single, sum, _⊕_, _⊗_}
-use borrow.Author.Needs.{needs}
 use Rattle.permutation.proofs.serial.feedback_sum.Statement.{statement}
 use Rattle.permutation.proofs.serial.feedback_sum.Tie as tie
 
@@ -48,7 +48,7 @@ array-read-result-3 : tie.Need-array-read-result-3
 array-read-result-3 c = search needs
 
 returns : tie.Need-returns
-unfolding feedback places
+unfolding feedback indices
 returns c =
     let v = c .args .t1 in
     let b : (k : ℕ) → Product (bit v k) (bit v k) = λ k. single (c .pre k) in

@@ -1,24 +1,23 @@
--- `serial::feedbacks` meets its contract: the parts that it lends are X and Y. Assumes nothing.
-use mathlib.Core.Path.{_≡_, ap₂, _∙_}
+-- `serial::feedbacks` meets its contract: the parts that it lends are X and Y.
+use mathlib.Core.Path.{ap₂, _∙_}
 use mathlib.Core.List.{List}
 use Prim.Native.Nat.{ℕ}
+use borrow.Author.Needs.{needs}
 use Rattle.quark.specs.Bytes.{bit}
 use Rattle.quark.specs.Feedback.{feedback, f, g, h}
 use Rattle.quark.specs.Step.{loaded}
 use Rattle.quark.specs.Instance.{instanceOf}
 use Rattle.quark.specs.Word.{wordBits}
 use Rattle.quark.proofs.Bits.{bits-at}
-use Rattle.quark.proofs.Instance.{regular}
 use Rattle.permutation.specs.leaf.Serial.{registers}
 use Rattle.permutation.proofs.Instances.{below}
-use Rattle.permutation.proofs.SerialSteps.{Ready, sized, x-part, y-part}
-use borrow.Author.Needs.{needs}
+use Rattle.permutation.proofs.SerialSteps.{SerialCells, serial-cells, sized, x-part, y-part}
 use Rattle.permutation.proofs.serial.feedbacks.Statement.{statement}
 use Rattle.permutation.proofs.serial.feedbacks.Tie as tie
 
-ready-of : (s : tie.Start) (half : ℕ) → half ≡ instanceOf (s .args .instance) .taps .half
-    → Ready (instanceOf (s .args .instance)) (s .args .bits .now) (s .args .l) half
-ready-of s half e = record { regular = regular (s .args .instance); full = s .pre .0; single = s .pre .1; is-half = e }
+-- the cells as they were handed in
+cells-of : (c : tie.After-half-of) → SerialCells (instanceOf (c .before .args .instance)) (c .before .args .bits .now) (c .before .args .l) (c .half-of .result)
+cells-of c = serial-cells (c .before .args .instance) (c .before .args .bits .now) (c .before .args .l) (c .half-of .result) (c .half-of .ensures .0) (c .before .pre .0) (c .before .pre .1)
 
 half-of-requires : tie.Need-half-of-requires
 half-of-requires c κs = tt
@@ -50,7 +49,7 @@ f-taps-requires c κs = tt
 feedback-at-requires : tie.Need-feedback-at-requires
 feedback-at-requires c κs =
     let s = c .before .before .before .before .before in
-    let R = ready-of s (c .before .before .before .before .half-of .result) (c .before .before .before .before .half-of .ensures .0) in
+    let R = cells-of (c .before .before .before .before) in
     let w = sized R .wideX in
     (λ k q. rw (c .f-taps .ensures, x-part R, w .0) (below (s .args .instance) .f-taps k q), λ k. rw (x-part R) (bits-at (w .1) k))
 
@@ -60,14 +59,14 @@ g-taps-requires c κs = tt
 feedback-at-requires-2 : tie.Need-feedback-at-requires-2
 feedback-at-requires-2 c κs =
     let s = c .before .before .before .before .before .before .before in
-    let R = ready-of s (c .before .before .before .before .before .before .half-of .result) (c .before .before .before .before .before .before .half-of .ensures .0) in
+    let R = cells-of (c .before .before .before .before .before .before) in
     let w = sized R .wideY in
     (λ k q. rw (c .g-taps .ensures, y-part R, w .0) (below (s .args .instance) .g-taps k q), λ k. rw (y-part R) (bits-at (w .1) k))
 
 h-at-requires : tie.Need-h-at-requires
 h-at-requires c κs =
     let s = c .before .before .before .before .before .before .before .before in
-    let R = ready-of s (c .before .before .before .before .before .before .before .half-of .result) (c .before .before .before .before .before .before .before .half-of .ensures .0) in
+    let R = cells-of (c .before .before .before .before .before .before .before) in
     let w = sized R in (
       (rw (x-part R) (w .wideX .0), rw (y-part R) (w .wideY .0)),
       (λ k. rw (x-part R) (bits-at (w .wideX .1) k), λ k. rw (y-part R) (bits-at (w .wideY .1) k)),
@@ -77,7 +76,7 @@ returns : tie.Need-returns
 unfolding f g registers loaded
 returns c =
     let s = c .before .before .before .before .before .before .before .before .before in
-    let R = ready-of s (c .before .before .before .before .before .before .before .before .half-of .result) (c .before .before .before .before .before .before .before .before .half-of .ensures .0) in
+    let R = cells-of (c .before .before .before .before .before .before .before .before) in
     let T = instanceOf (s .args .instance) .taps in
     let at : List ℕ → List ℕ → ℕ = λ ts r. feedback ts (bit r) in
     record {
@@ -89,18 +88,5 @@ returns c =
 pub feedbacks-spec : {M : Type 1} → statement M
 feedbacks-spec =
     tie.close
-    (tie.spec
-    half-of-requires
-    add-b
-    sub-x
-    part-x-start
-    part-x-end
-    sub-y
-    part-y-start
-    part-y-end
-    f-taps-requires
-    feedback-at-requires
-    g-taps-requires
-    feedback-at-requires-2
-    h-at-requires
-    returns)
+    (tie.spec half-of-requires add-b sub-x part-x-start part-x-end sub-y part-y-start part-y-end f-taps-requires feedback-at-requires g-taps-requires
+    feedback-at-requires-2 h-at-requires returns)

@@ -1,15 +1,15 @@
--- `serial::h_at` meets its contract: the polynomial again, in sums and products of bits. Assumes nothing.
+-- `serial::h_at` meets its contract: the polynomial again, in sums and products of bits.
 use mathlib.Core.Path.{ap, _∙_}
 use mathlib.Core.List.{List}
 use Prim.Native.Nat.{ℕ, _%_, _<_}
+use native.Mathlib.Omega.{arith}
+use borrow.Author.Needs.{needs}
 use Rattle.quark.specs.Bytes.{bit}
 use Rattle.quark.specs.Feedback.{sumAt, h}
 use Rattle.quark.specs.Instance.{instanceOf}
 use Rattle.quark.specs.Word.{wordBits}
 use Rattle.permutation.proofs.Instances.{below}
 use Rattle.permutation.proofs.SingleBits.{single, exact, sum, parity, plus, _⊕_, _⊗_}
-use native.Mathlib.Omega.{arith}
-use borrow.Author.Needs.{needs}
 use Rattle.permutation.proofs.serial.h_at.Statement.{statement}
 use Rattle.permutation.proofs.serial.h_at.Tie as tie
 

@@ -1,11 +1,11 @@
--- `serial::move_down` meets its contract: after i turns the first i cells are moved. Assumes nothing.
+-- `serial::move_down` meets its contract: after i passes the first i cells are moved.
 use mathlib.Core.Path.{_≡_, refl, ap, ap₂, _∙_}
 use mathlib.Core.List.{List, _++_}
 use Prim.Native.Nat.{ℕ, _+_, _-_, _<_, _≤_}
 use lib.ListN.{length, getD, take, drop, set}
-use Rattle.permutation.proofs.Cells.{down-read, down-store}
 use native.Mathlib.Omega.{arith}
 use borrow.Author.Needs.{needs}
+use Rattle.permutation.proofs.Cells.{down-read, down-store}
 use Rattle.permutation.proofs.serial.move_down.Statement.{statement}
 use Rattle.permutation.proofs.serial.move_down.Tie as tie
 

@@ -1,11 +1,11 @@
--- `serial::move_up` meets its contract: before the turn at i the cells above i are moved. Assumes nothing.
+-- `serial::move_up` meets its contract: before the pass at i the cells above i are moved.
 use mathlib.Core.Path.{_≡_, ap, ap₂, _∙_}
 use mathlib.Core.List.{List, _++_}
 use Prim.Native.Nat.{ℕ, _+_, _-_, _<_, _≤_}
 use lib.ListN.{length, getD, take, drop, set}
-use Rattle.permutation.proofs.Cells.{up-start, up-read, up-store}
 use native.Mathlib.Omega.{arith}
 use borrow.Author.Needs.{needs}
+use Rattle.permutation.proofs.Cells.{up-start, up-read, up-store}
 use Rattle.permutation.proofs.serial.move_up.Statement.{statement}
 use Rattle.permutation.proofs.serial.move_up.Tie as tie
 

@@ -1,21 +1,18 @@
--- `serial::step` meets its contract. Assumes nothing.
-use mathlib.Core.Path.{_≡_}
-use Prim.Native.Nat.{ℕ}
+-- `serial::step` meets its contract.
+use borrow.Author.Needs.{needs}
 use Rattle.quark.specs.Step.{loaded}
 use Rattle.quark.specs.Instance.{instanceOf}
 use Rattle.quark.specs.leaf.Together.{gainX, gainY}
 use Rattle.quark.proofs.Bits.{bits-at}
 use Rattle.permutation.specs.leaf.Serial.{registers}
-use Rattle.quark.proofs.Instance.{regular}
 use Rattle.permutation.proofs.SingleBits.{exact, sum, _⊕_}
-use Rattle.permutation.proofs.SerialSteps.{f-small, g-small, h-small, Ready, sized, y-first, after-step}
-use borrow.Author.Needs.{needs}
+use Rattle.permutation.proofs.SerialSteps.{f-small, g-small, h-small, SerialCells, serial-cells, sized, y-first, after-step}
 use Rattle.permutation.proofs.serial.step.Statement.{statement}
 use Rattle.permutation.proofs.serial.step.Tie as tie
 
-ready-of : (s : tie.Start) (half : ℕ) → half ≡ instanceOf (s .args .instance) .taps .half
-    → Ready (instanceOf (s .args .instance)) (s .args .bits .now) (s .args .l) half
-ready-of s half e = record { regular = regular (s .args .instance); full = s .pre .1 .0; single = s .pre .1 .1; is-half = e }
+-- the cells as they were handed in
+cells-of : (c : tie.After-half-of) → SerialCells (instanceOf (c .before .args .instance)) (c .before .args .bits .now) (c .before .args .l) (c .half-of .result)
+cells-of c = serial-cells (c .before .args .instance) (c .before .args .bits .now) (c .before .args .l) (c .half-of .result) (c .half-of .ensures .0) (c .before .pre .1 .0) (c .before .pre .1 .1)
 
 half-of-requires : tie.Need-half-of-requires
 half-of-requires c κs = tt
@@ -52,7 +49,7 @@ unfolding registers loaded gainX gainY
 returns c =
     let s = c .before .before .before .before .before .before .before .before .before .before in
     let T = instanceOf (s .args .instance) .taps in
-    let R = ready-of s (c .before .before .before .before .before .before .before .before .before .half-of .result) (c .before .before .before .before .before .before .before .before .before .half-of .ensures .0) in
+    let R = cells-of (c .before .before .before .before .before .before .before .before .before) in
     let fed = c .before .before .before .before .before .before .before .feedbacks .ensures in
     let moved = c .before .move-down in
     let y0 = exact (y-first R) (bits-at (sized R .wideY .1) 0) in

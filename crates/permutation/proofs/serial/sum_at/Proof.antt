@@ -1,14 +1,14 @@
--- `serial::sum_at` meets its contract: after k turns the sum is that at the first k taps. Assumes nothing.
+-- `serial::sum_at` meets its contract: after k passes the sum is that at the first k taps.
 use mathlib.Core.Path.{_≡_, refl}
 use Prim.Native.Nat.{_-_, _<_, _≤_}
 use lib.ListN.{length, getD, take}
 use lib.Seq.{getD-take, length-take-le}
+use native.Mathlib.Omega.{arith}
+use borrow.Author.Needs.{needs}
 use Rattle.quark.specs.Bytes.{bit}
 use Rattle.quark.specs.Feedback.{sumAt}
 use Rattle.permutation.proofs.SingleBits.{Sum, single, _⊕_}
 use Rattle.permutation.proofs.Tabulate.{sumAt-next}
-use native.Mathlib.Omega.{arith}
-use borrow.Author.Needs.{needs}
 use Rattle.permutation.proofs.serial.sum_at.Statement.{statement}
 use Rattle.permutation.proofs.serial.sum_at.Tie as tie
 

@@ -1,23 +1,23 @@
--- `serial::undo` meets its contract: with t steps left to undo from what the cells hold, the end is the same. Assumes nothing.
+-- `serial::undo` meets its contract: with t steps left to undo from what the cells hold, the end is the same.
 use mathlib.Core.Path.{_≡_, refl, sym, ap, _∙_}
 use mathlib.Core.List.{List, _++_}
 use Prim.Native.Nat.{ℕ, suc, _-_, _≤_}
 use lib.ListN.{take, drop}
+use native.Mathlib.Omega.{arith}
+use borrow.Author.Needs.{needs}
 use Rattle.quark.specs.Step.{Registers, loaded, stored, stepsL}
 use Rattle.quark.specs.Inverse.{undoSteps}
 use Rattle.quark.specs.Instance.{instanceOf}
 use Rattle.quark.specs.Word.{wordBits}
 use Rattle.permutation.specs.leaf.Core.{undone}
-use Rattle.permutation.specs.leaf.Serial.{registers, Turned}
-use Rattle.permutation.proofs.SerialSteps.{turned-start, turned-cells}
-use native.Mathlib.Omega.{arith}
-use borrow.Author.Needs.{needs}
+use Rattle.permutation.specs.leaf.Serial.{registers, CellsHold}
+use Rattle.permutation.proofs.SerialSteps.{hold-start, hold-cells}
 use Rattle.permutation.proofs.serial.undo.Statement.{statement}
 use Rattle.permutation.proofs.serial.undo.Tie as tie
 
 abbrev Inv-loop : tie.InvT-loop
 Inv-loop bits₀ instance l count l-now₀ t₀ bits l-now t =
-    (t ≤ count) × Turned (instanceOf instance) (registers (instanceOf instance) bits l-now) bits₀ bits l-now
+    (t ≤ count) × CellsHold (instanceOf instance) (registers (instanceOf instance) bits l-now) bits₀ bits l-now
     × (undoSteps (instanceOf instance .taps) t (registers (instanceOf instance) bits l-now)
     ≡ undoSteps (instanceOf instance .taps) count (loaded (instanceOf instance .taps) (take (instanceOf instance .b) bits₀) (stepsL count (wordBits 10 l))))
 
@@ -35,14 +35,14 @@ loop-holds c =
     let I = instanceOf (a .instance) in
     let run = c .run-l .ensures in (
       search needs,
-      turned-start I (a .bits .now) (c .run-l .result) (run .0) (s .pre .1 .0) (s .pre .1 .1),
+      hold-start I (a .bits .now) (c .run-l .result) (run .0) (s .pre .1 .0) (s .pre .1 .1),
       ap (λ (w : List ℕ). undoSteps (I .taps) (a .count) (loaded (I .taps) (take (I .b) (a .bits .now)) w)) (run .1),
     )
 
 undo-step-requires : tie.Need-undo-step-requires Inv-loop μ-loop
 undo-step-requires c κs =
-    let wordRegisters = c .before .before .loop .inv .1 in
-    (wordRegisters .small, (wordRegisters .full, wordRegisters .cells))
+    let now = c .before .before .loop .inv .1 in
+    (now .small, (now .full, now .cells))
 
 sub-t : tie.Need-sub-t Inv-loop μ-loop
 sub-t c = search needs
@@ -56,11 +56,11 @@ loop-again c =
     let a = c .before .before .before .before .before .args in
     let l = c .before .before .before .loop in
     let T = instanceOf (a .instance) .taps in
-    let wordRegisters = l .inv .1 in
+    let now = l .inv .1 in
     let next = c .undo-step .ensures in
     let e : l .t ≡ suc (l .t - 1) = omega arith in (
       omega arith,
-      record { holds = refl; rest = next .rest ∙ wordRegisters .rest; small = next .small; full = next .full; cells = next .cells },
+      record { holds = refl; rest = next .rest ∙ now .rest; small = next .small; full = next .full; cells = next .cells },
       ap (undoSteps T (l .t - 1)) (next .holds)
           ∙ ap (λ (t : ℕ). undoSteps T t (registers (instanceOf (a .instance)) (l .bits) (l .l-now))) (sym e)
           ∙ l .inv .2,
@@ -76,7 +76,7 @@ returns c =
     let end : registers I (l .bits) (l .l-now)
     ≡ undoSteps (I .taps) (a .count) (loaded (I .taps) (take (I .b) (a .bits .now)) (stepsL (a .count) (wordBits 10 (a .l)))) =
     rw e at (l .inv .2) in
-    turned-cells I (l .inv .1) ∙ ap (λ (s : Registers). stored s ++ drop (I .b) (a .bits .now)) end
+    hold-cells I (l .inv .1) ∙ ap (λ (s : Registers). stored s ++ drop (I .b) (a .bits .now)) end
 
 pub undo-spec : {M : Type 1} → statement M
 undo-spec =

@@ -1,19 +1,16 @@
--- `serial::undo_step` meets its contract. Assumes nothing.
-use mathlib.Core.Path.{_≡_}
-use Prim.Native.Nat.{ℕ}
+-- `serial::undo_step` meets its contract.
+use borrow.Author.Needs.{needs}
 use Rattle.quark.specs.Step.{loaded}
 use Rattle.quark.specs.Instance.{instanceOf}
 use Rattle.permutation.specs.leaf.Serial.{registers}
-use Rattle.quark.proofs.Instance.{regular}
 use Rattle.permutation.proofs.SingleBits.{single, exact, sum, _⊕_}
-use Rattle.permutation.proofs.SerialSteps.{f-small, g-small, h-small, gained-small, Ready, sized, x-gained, y-gained, after-zeros, after-undo}
-use borrow.Author.Needs.{needs}
+use Rattle.permutation.proofs.SerialSteps.{f-small, g-small, h-small, gained-small, SerialCells, serial-cells, sized, x-gained, y-gained, after-zeros, after-undo}
 use Rattle.permutation.proofs.serial.undo_step.Statement.{statement}
 use Rattle.permutation.proofs.serial.undo_step.Tie as tie
 
-ready-of : (s : tie.Start) (half : ℕ) → half ≡ instanceOf (s .args .instance) .taps .half
-    → Ready (instanceOf (s .args .instance)) (s .args .bits .now) (s .args .l) half
-ready-of s half e = record { regular = regular (s .args .instance); full = s .pre .1 .0; single = s .pre .1 .1; is-half = e }
+-- the cells as they were handed in
+cells-of : (c : tie.After-half-of) → SerialCells (instanceOf (c .before .args .instance)) (c .before .args .bits .now) (c .before .args .l) (c .half-of .result)
+cells-of c = serial-cells (c .before .args .instance) (c .before .args .bits .now) (c .before .args .l) (c .half-of .result) (c .half-of .ensures .0) (c .before .pre .1 .0) (c .before .pre .1 .1)
 
 half-of-requires : tie.Need-half-of-requires
 half-of-requires c κs = tt
@@ -50,7 +47,7 @@ feedbacks-requires c κs =
     let s = c .before .before .before .before .before .before .before in
     let before = c .before .before .before .before .before .undo-l in
     let moved = c .before .move-up in
-    let zeros = after-zeros (ready-of s (c .before .before .before .before .before .before .half-of .result) (c .before .before .before .before .before .before .half-of .ensures .0)) (before .result) (before .ensures .0) (moved .last .0) (moved .ensures) in
+    let zeros = after-zeros (cells-of (c .before .before .before .before .before .before)) (before .result) (before .ensures .0) (moved .last .0) (moved .ensures) in
     (zeros .full, zeros .cells)
 
 element-write-bits-3 : tie.Need-element-write-bits-3
@@ -64,7 +61,7 @@ unfolding registers loaded
 returns c =
     let s = c .before .before .before .before .before .before .before .before .before .before .before .before in
     let T = instanceOf (s .args .instance) .taps in
-    let R = ready-of s (c .before .before .before .before .before .before .before .before .before .before .before .half-of .result) (c .before .before .before .before .before .before .before .before .before .before .before .half-of .ensures .0) in
+    let R = cells-of (c .before .before .before .before .before .before .before .before .before .before .before) in
     let before = c .before .before .before .before .before .before .before .before .before .before .undo-l in
     let moved = c .before .before .before .before .before .before .move-up in
     let zeros = after-zeros R (before .result) (before .ensures .0) (moved .last .0) (moved .ensures) in

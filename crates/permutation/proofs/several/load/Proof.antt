@@ -1,4 +1,4 @@
--- `permutation::several::load` meets its contract. Assumes nothing.
+-- `several::load` meets its contract.
 use mathlib.Core.Path.{_≡_, subst}
 use Prim.Native.Nat.{ℕ, _+_, _-_, _*_, _^_}
 use native.Mathlib.Omega.{arith}
@@ -7,25 +7,25 @@ use Rattle.permutation.proofs.CellWords.{Holds, holds-words}
 use Rattle.permutation.proofs.several.load.Statement.{statement}
 use Rattle.permutation.proofs.several.load.Tie as tie
 
-add-gather : tie.Need-add-gather
-add-gather c = search needs
+add-read-word : tie.Need-add-read-word
+add-read-word c = search needs
 
-sub-gather : tie.Need-sub-gather
-sub-gather c = search needs
+sub-read-word : tie.Need-sub-read-word
+sub-read-word c = search needs
 
-gather-requires : tie.Need-gather-requires
-gather-requires c κs = search needs
+read-word-requires : tie.Need-read-word-requires
+read-word-requires c κs = search needs
 
-gather-requires-2 : tie.Need-gather-requires-2
-gather-requires-2 c κs = search needs
+read-word-requires-2 : tie.Need-read-word-requires-2
+read-word-requires-2 c κs = search needs
 
 returns : tie.Need-returns
 returns c =
     let hi = c .before in
     let a = hi .before .args in
     let e : 64 + (a .half - 64) ≡ a .half = omega arith in
-    subst (λ (n : ℕ). Holds (a .bits .now) n (a .from) (hi .gather .result * 2 ^ 64 + c .gather2 .result)) e
-    (holds-words (a .bits .now) 64 (a .half - 64) (a .from) (hi .gather .result) (c .gather2 .result) (c .gather2 .ensures) (hi .gather .ensures))
+    subst (λ (n : ℕ). Holds (a .bits .now) n (a .from) (hi .read-word .result * 2 ^ 64 + c .read-word2 .result)) e
+    (holds-words (a .bits .now) 64 (a .half - 64) (a .from) (hi .read-word .result) (c .read-word2 .result) (c .read-word2 .ensures) (hi .read-word .ensures))
 
 pub load-spec : {M : Type 1} → statement M
-load-spec = tie.close (tie.spec add-gather sub-gather gather-requires gather-requires-2 returns)
+load-spec = tie.close (tie.spec add-read-word sub-read-word read-word-requires read-word-requires-2 returns)

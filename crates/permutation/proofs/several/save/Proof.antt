@@ -1,4 +1,4 @@
--- `permutation::several::save` meets its contract. Assumes nothing.
+-- `several::save` meets its contract.
 use mathlib.Core.List.{List}
 use mathlib.Core.Path.{_≡_, ap, _∙_}
 use Prim.Native.Nat.{ℕ, _+_, _-_, _*_, _^_, _<_}
@@ -10,26 +10,26 @@ use Rattle.permutation.proofs.CellWords.{length-written, written-words}
 use Rattle.permutation.proofs.several.save.Statement.{statement}
 use Rattle.permutation.proofs.several.save.Tie as tie
 
-scatter-requires : tie.Need-scatter-requires
-scatter-requires c κs = search needs
+write-word-requires : tie.Need-write-word-requires
+write-word-requires c κs = search needs
 
-sub-scatter : tie.Need-sub-scatter
-sub-scatter c = search needs
+sub-write-word : tie.Need-sub-write-word
+sub-write-word c = search needs
 
-add-scatter : tie.Need-add-scatter
-add-scatter c = search needs
+add-write-word : tie.Need-add-write-word
+add-write-word c = search needs
 
 low : (s : tie.Start) → s .args .r .lo < 2 ^ 64
 low s = search needs
 
 -- the first word is written
-first : (c : tie.After-scatter) → c .scatter .last .1 .1 .0 ≡ written (c .before .before .args .bits .now) (c .before .before .args .from) 64 (c .before .before .args .r .lo)
-first c = c .scatter .ensures
+first : (c : tie.After-write-word) → c .write-word .last .1 .1 .0 ≡ written (c .before .before .args .bits .now) (c .before .before .args .from) 64 (c .before .before .args .r .lo)
+first c = c .write-word .ensures
 
-scatter-requires-2 : tie.Need-scatter-requires-2
-scatter-requires-2 c κs =
+write-word-requires-2 : tie.Need-write-word-requires-2
+write-word-requires-2 c κs =
     let a = c .before .before .before .args in
-    let e : length (c .before .scatter .last .1 .1 .0) ≡ 256 =
+    let e : length (c .before .write-word .last .1 .1 .0) ≡ 256 =
     ap length (first (c .before)) ∙ length-written (a .bits .now) (a .from) 64 (a .r .lo) (omega arith) ∙ c .before .before .before .pre .3 in
     search needs
 
@@ -39,10 +39,10 @@ returns c =
     let s = one .before .before in
     let a = s .args in
     let e : 64 + (a .half - 64) ≡ a .half = omega arith in
-    c .scatter2 .ensures
+    c .write-word2 .ensures
     ∙ ap (λ (t : List ℕ). written t (a .from + 64) (a .half - 64) (a .r .hi)) (first one)
     ∙ written-words (a .bits .now) 64 (a .half - 64) (a .from) (a .r .hi) (a .r .lo) (omega arith) (low s)
     ∙ ap (λ (n : ℕ). written (a .bits .now) (a .from) n (a .r .hi * 2 ^ 64 + a .r .lo)) e
 
 pub save-spec : {M : Type 1} → statement M
-save-spec = tie.close (tie.spec scatter-requires sub-scatter add-scatter scatter-requires-2 returns)
+save-spec = tie.close (tie.spec write-word-requires sub-write-word add-write-word write-word-requires-2 returns)

@@ -1,4 +1,4 @@
--- `serial::f_taps` meets its contract: for each of the three instances by computation. Assumes nothing.
+-- `taps::f_taps` meets its contract: for each of the three instances by computation.
 use mathlib.Core.Path.{refl}
 use Rattle.quark.specs.Instance.{U, D, S}
 use Rattle.quark.proofs.Instance.{is-U, is-D, is-S}

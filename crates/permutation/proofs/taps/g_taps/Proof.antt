@@ -1,4 +1,4 @@
--- `serial::g_taps` meets its contract: for each of the three instances by computation. Assumes nothing.
+-- `taps::g_taps` meets its contract: for each of the three instances by computation.
 use mathlib.Core.Path.{refl}
 use Rattle.quark.specs.Feedback.{exchange}
 use Rattle.quark.specs.Instance.{U, D, S}

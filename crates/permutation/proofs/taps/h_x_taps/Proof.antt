@@ -1,4 +1,4 @@
--- `serial::h_x_taps` meets its contract: for each of the three instances by computation. Assumes nothing.
+-- `taps::h_x_taps` meets its contract: for each of the three instances by computation.
 use mathlib.Core.Path.{refl}
 use native.Mathlib.Omega.{arith}
 use Rattle.quark.specs.Instance.{U, D, S}

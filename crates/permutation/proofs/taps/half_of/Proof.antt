@@ -1,4 +1,4 @@
--- `serial::half_of` meets its contract: for each of the three instances by computation. Assumes nothing.
+-- `taps::half_of` meets its contract: for each of the three instances by computation.
 use mathlib.Core.Path.{refl}
 use native.Mathlib.Omega.{arith}
 use Rattle.quark.specs.Instance.{U, D, S}

@@ -1,4 +1,4 @@
--- `finish` is safe and ends. The space has 32 bytes, so that the part for the buffer ends within it. Assumes nothing.
+-- `finish` is safe and ends. The space has 32 bytes, so that the part for the buffer ends within it.
 use mathlib.Core.Path.{_≡_}
 use native.Mathlib.Omega.{arith}
 use lib.ListN.{length}

@@ -1,4 +1,4 @@
--- `same` is safe and ends. The measure is the number of bytes that are left. Assumes nothing.
+-- `same` is safe and ends. The measure is the number of bytes that are left.
 use Prim.Native.Nat.{_-_}
 use borrow.Author.Needs.{needs}
 use Rattle.pieces.proofs.compare.same.Statement.{statement}

@@ -1,4 +1,4 @@
--- `agreeing` is safe and ends. The count is at most the number of cuts tried; the measure is the number of cuts that are left. Assumes nothing.
+-- `agreeing` is safe and ends. The count is at most the number of cuts tried; the measure is the number of cuts that are left.
 use Prim.Native.Nat.{_+_, _-_, _≤_}
 use borrow.Author.Needs.{needs}
 use Rattle.pieces.proofs.cuts.agreeing.Statement.{statement}

@@ -1,4 +1,4 @@
--- `bit_by_bit` is safe and ends. The measure is the number of bits that are left. Assumes nothing.
+-- `bit_by_bit` is safe and ends. The measure is the number of bits that are left.
 use Prim.Native.Nat.{_-_}
 use borrow.Author.Needs.{needs}
 use Rattle.pieces.proofs.cuts.bit_by_bit.Statement.{statement}

@@ -1,4 +1,4 @@
--- `part` is safe and ends. The measure is the number of bits that are left. Assumes nothing.
+-- `part` is safe and ends. The measure is the number of bits that are left.
 use mathlib.Core.Path.{_≡_}
 use Prim.Native.Nat.{_-_}
 use lib.ListN.{length}

@@ -1,4 +1,4 @@
--- `write_first` is safe and ends. The measure is the number of bytes that are left. Assumes nothing.
+-- `write_first` is safe and ends. The measure is the number of bytes that are left.
 use Prim.Native.Nat.{_-_}
 use borrow.Author.Needs.{needs}
 use Rattle.pieces.proofs.text.write_first.Statement.{statement}

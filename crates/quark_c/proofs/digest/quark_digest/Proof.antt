@@ -1,7 +1,7 @@
--- `quark_digest` meets its contract: it is `digest`, with the number of its outcome. Assumes nothing.
+-- `quark_digest` meets its contract: it is `digest`, with the number of its outcome.
 use mathlib.Core.Path.{ap, _∙_}
 use borrow.Author.Needs.{needs}
-use Rattle.permutation.specs.Outcome.{numberOf}
+use Rattle.refusals.specs.Outcome.{numberOf}
 use Rattle.quark_c.proofs.digest.quark_digest.Statement.{statement}
 use Rattle.quark_c.proofs.digest.quark_digest.Tie as tie
 

@@ -1,7 +1,7 @@
--- `journal_seal` meets its contract: it is `seal`, with the number of its outcome. Assumes nothing.
+-- `journal_seal` meets its contract: it is `seal`, with the number of its outcome.
 use mathlib.Core.Path.{ap, _∙_}
 use borrow.Author.Needs.{needs}
-use Rattle.permutation.specs.Outcome.{numberOf}
+use Rattle.refusals.specs.Outcome.{numberOf}
 use Rattle.quark_c.proofs.journals.journal_seal.Statement.{statement}
 use Rattle.quark_c.proofs.journals.journal_seal.Tie as tie
 

@@ -1,9 +1,9 @@
--- `number_of_sealed` meets its contract: each arm is the case of the answer that it takes. Assumes nothing.
+-- `number_of_sealed` meets its contract: each arm is the case of the answer that it takes.
 use mathlib.Core.Path.{sym, ap}
 use borrow.Author.Needs.{needs}
+use Rattle.refusals.specs.Outcome.{numberOf}
 use Rattle.records.specs.declared.Sealed.{Sealed}
-use Rattle.records.specs.Seal.{sealedOutcome}
-use Rattle.permutation.specs.Outcome.{numberOf}
+use Rattle.records.specs.Sealing.{sealedOutcome}
 use Rattle.quark_c.proofs.journals.number_of_sealed.Statement.{statement}
 use Rattle.quark_c.proofs.journals.number_of_sealed.Tie as tie
 

@@ -1,4 +1,4 @@
--- `fresh` meets its contract. Assumes nothing.
+-- `fresh` meets its contract.
 use Rattle.sponge.specs.Soundness.{fresh, stateWith}
 use Rattle.sponge.proofs.fresh.fresh.Statement.{statement}
 use Rattle.sponge.proofs.fresh.fresh.Tie as tie

@@ -1,4 +1,4 @@
--- `initial` meets its contract: the bytes of the initial bits are computed. Assumes nothing.
+-- `initial` meets its contract: the bytes of the initial bits are computed.
 use mathlib.Core.Path.{sym, ap}
 use Rattle.quark.specs.Bytes.{tabulate, bitAt, bitsOf, byteAt, bytesOf}
 use Rattle.quark.specs.Instance.{Instance, U, D, S}

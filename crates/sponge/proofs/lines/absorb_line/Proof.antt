@@ -1,8 +1,9 @@
--- `absorb_line` meets its contract: the calls of `first` are the lines in checking order. Assumes nothing.
+-- `absorb_line` meets its contract: the calls of `first` are the lines in checking order.
 use mathlib.Core.Bool.{not}
 use mathlib.Core.Path.{refl, ap}
-use Rattle.permutation.specs.Lines.{line1, line4, firstLine}
-use Rattle.permutation.proofs.Accepted.{in-front}
+use Rattle.refusals.specs.Lines.{firstLine}
+use Rattle.refusals.proofs.FirstLine.{in-front}
+use Rattle.permutation.specs.Lines.{line1, line4}
 use Rattle.sponge.specs.Outcomes.{absorbNumber, line2, line3}
 use Rattle.sponge.proofs.lines.absorb_line.Statement.{statement}
 use Rattle.sponge.proofs.lines.absorb_line.Tie as tie

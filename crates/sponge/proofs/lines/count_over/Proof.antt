@@ -1,4 +1,4 @@
--- `count_over` meets its contract. Assumes nothing.
+-- `count_over` meets its contract.
 use Prim.Native.Nat.{_*_}
 use native.Mathlib.Omega.{arith}
 use borrow.Author.Needs.{needs}

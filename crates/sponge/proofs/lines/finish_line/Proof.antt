@@ -1,11 +1,12 @@
--- `finish_line` meets its contract: the calls of `first` are the lines in checking order. Assumes nothing.
+-- `finish_line` meets its contract: the calls of `first` are the lines in checking order.
 use mathlib.Core.Bool.{not}
 use mathlib.Core.Path.{refl, ap}
 use Prim.Native.Nat.{ℕ}
 use borrow.Author.Needs.{needs}
 use lib.Dec.{eqb}
-use Rattle.permutation.specs.Lines.{line1, line4, line5, firstLine}
-use Rattle.permutation.proofs.Accepted.{in-front}
+use Rattle.refusals.specs.Lines.{firstLine, line5}
+use Rattle.refusals.proofs.FirstLine.{in-front}
+use Rattle.permutation.specs.Lines.{line1, line4}
 use Rattle.sponge.specs.Outcomes.{finishNumber, line2, line3}
 use Rattle.sponge.proofs.lines.finish_line.Statement.{statement}
 use Rattle.sponge.proofs.lines.finish_line.Tie as tie

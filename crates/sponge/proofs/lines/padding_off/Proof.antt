@@ -1,11 +1,11 @@
--- `padding_off` meets its contract: the padded length and the sum from the total's remainder leave the same remainder. Assumes nothing.
+-- `padding_off` meets its contract: the padded length and the sum from the total's remainder leave the same remainder.
 use mathlib.Core.Path.{ap, _∙_}
 use mathlib.Core.Bool.{not}
 use Prim.Native.Nat.{ℕ, _+_, _-_, _%_, _<_, _≤_}
 use native.Mathlib.Nat.{mod-lt}
 use native.Mathlib.Omega.{arith}
 use lib.Dec.{eqb}
-use Rattle.quark.proofs.Instance.{regular}
+use Rattle.quark.proofs.Instance.{in-bytes, regular}
 use Rattle.sponge.specs.Outcomes.{line8}
 use Rattle.sponge.proofs.StateBytes.{padded-remainder}
 use Rattle.sponge.proofs.lines.padding_off.Statement.{statement}
@@ -14,15 +14,16 @@ use Rattle.sponge.proofs.lines.padding_off.Tie as tie
 -- the rate is from 1 to 256, and the remainder is below it
 small : (c : tie.After-rate) → (c .before .args .total % c .rate .result < c .rate .result) × (c .rate .result ≤ 256)
 small c =
-    let R = regular (c .before .args .instance) in
+    let i = c .before .args .instance in
+    let R = regular i in
     let some : 0 < c .rate .result = omega (arith, R .some-rate) in
-    (mod-lt (c .before .args .total) some, omega (arith, R .rate-fits, R .at-most-256))
+    (mod-lt (c .before .args .total) some, omega (arith, R .rate-fits, in-bytes i .at-most-256))
 
 rate-requires : tie.Need-rate-requires
 rate-requires c κs = tt
 
-rem-taken : tie.Need-rem-taken
-rem-taken c = omega (arith, small c)
+rem-begun : tie.Need-rem-begun
+rem-begun c = omega (arith, small c)
 
 add-result : tie.Need-add-result
 add-result c = omega (arith, small c)
@@ -52,7 +53,7 @@ padding-off-spec =
     tie.close
     (tie.spec
     rate-requires
-    rem-taken
+    rem-begun
     add-result
     sub-result
     sub-result-2

@@ -1,4 +1,4 @@
--- `total_over` meets its contract. Assumes nothing.
+-- `total_over` meets its contract.
 use Prim.Native.Nat.{_+_}
 use native.Mathlib.Omega.{arith}
 use borrow.Author.Needs.{needs}

@@ -1,4 +1,4 @@
--- `bit_at` meets its contract. Assumes nothing.
+-- `bit_at` meets its contract.
 use mathlib.Core.Path.{refl}
 use borrow.Author.Needs.{needs}
 use Rattle.quark.specs.Bytes.{bitAt}

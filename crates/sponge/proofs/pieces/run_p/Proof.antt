@@ -1,6 +1,6 @@
--- `run_p` meets its contract: P on the first b/8 bytes is P on the b bits. Assumes nothing.
+-- `run_p` meets its contract: P on the first b/8 bytes is P on the b bits.
 use mathlib.Core.List.{List, _++_}
-use mathlib.Core.Path.{_≡_, sym, ap, ap₂, _∙_}
+use mathlib.Core.Path.{_≡_, sym, ap, _∙_}
 use Prim.Native.Nat.{ℕ, _≤_}
 use native.Mathlib.Numerals.{add-one}
 use native.Mathlib.Omega.{arith}
@@ -9,13 +9,12 @@ use lib.ListN.{length, take, drop}
 use lib.Seq.{length-take-le}
 use Rattle.quark.specs.Sponge.{runP}
 use Rattle.quark.specs.Step.{P}
-use Rattle.quark.proofs.Instance.{regular}
-use Rattle.permutation.specs.Lines.{stateBytes}
+use Rattle.quark.specs.Instance.{instanceOf, stateBytes}
+use Rattle.quark.proofs.Instance.{in-bytes}
 use Rattle.permutation.specs.Permute.{onBytes}
-use Rattle.sponge.specs.Soundness.{contentOf, stateWith}
-use Rattle.sponge.specs.leaf.Ready.{withSponge}
+use Rattle.sponge.specs.Soundness.{contentOf}
 use Rattle.sponge.proofs.StateBytes.{bytes-permuted}
-use Rattle.sponge.proofs.Contents.{permuted}
+use Rattle.sponge.proofs.Contents.{permuted, with-sponge}
 use Rattle.sponge.proofs.pieces.run_p.Statement.{statement}
 use Rattle.sponge.proofs.pieces.run_p.Tie as tie
 
@@ -25,7 +24,7 @@ unfolding stateBytes
 front c =
     let s = c .before .args .state in
     let n : length (s .bits) ≡ 32 = search needs in
-    omega (arith, c .state-bytes .ensures, regular (s .instance) .at-most-256)
+    omega (arith, c .state-bytes .ensures, in-bytes (s .instance) .at-most-256)
 
 state-bytes-requires : tie.Need-state-bytes-requires
 state-bytes-requires c κs = tt
@@ -39,11 +38,11 @@ slice-aggregate-permute c = sym (length-take-le _ _ (front (c .before .before)))
 permute-requires : tie.Need-permute-requires
 permute-requires c κs = tt
 
-add-t8 : tie.Need-add-t8
-add-t8 c = omega (arith, c .before .before .before .before .before .before .pre .1)
+add-next : tie.Need-add-next
+add-next c = omega (arith, c .before .before .before .before .before .before .pre .1)
 
 returns : tie.Need-returns
-unfolding withSponge stateWith runP contentOf stateBytes
+unfolding runP contentOf stateBytes
 returns c =
     let start = c .before .before .before .before .before .before in
     let s = start .args .state in
@@ -52,7 +51,7 @@ returns c =
     let n : length (s .bits) ≡ 32 = search needs in
     let m : length (take (size .result) (s .bits)) ≡ stateBytes (s .instance) =
     length-take-le (size .result) (s .bits) (front (c .before .before .before .before .before)) ∙ size .ensures in
-    ap₂ (λ (r : ℕ) (l : List ℕ). record { instance = s .instance; phase = s .phase; total = s .total; runs = r; bits = l }) (add-one (s .runs))
+    with-sponge s (runP (instanceOf (s .instance)) (contentOf s .sponge)) (add-one (s .runs))
     (ap (λ (l : List ℕ). l ++ drop (size .result) (s .bits))
     (c .before .before .permute .ensures .1 ∙ permuted (s .instance) (start .args .width) (take (size .result) (s .bits)) (ready .known) (ready .width) m)
     ∙ ap (λ (k : ℕ). onBytes P (s .instance) (take k (s .bits)) ++ drop k (s .bits)) (size .ensures)
@@ -66,5 +65,5 @@ run-p-spec =
     array-borrow-prefix-bits
     slice-aggregate-permute
     permute-requires
-    add-t8
+    add-next
     returns)

@@ -1,77 +1,79 @@
--- `take_bit` meets its contract: what `add_bit`, `count_bit` and `run_p` make of the state is the definition's next state. Assumes nothing.
-use mathlib.Core.Path.{_≡_, sym, ap, ap₂, _∙_, subst}
+-- `take_bit` meets its contract: what `add_bit`, the new total and `run_p` make of the state is the definition's next state.
+use mathlib.Core.Path.{_≡_, sym, ap, ap₂, _∙_}
 use Prim.Native.Nat.{ℕ, _+_, _%_}
+use native.Mathlib.Nat.{div-le-self}
 use native.Mathlib.Omega.{arith}
 use borrow.Author.Needs.{needs}
 use Rattle.quark.specs.Instance.{instanceOf}
 use Rattle.quark.proofs.Instance.{regular}
 use Rattle.sponge.specs.declared.State.{State}
-use Rattle.sponge.specs.Taking.{place, addBit}
+use Rattle.sponge.specs.Taking.{addBit}
 use Rattle.sponge.specs.Soundness.{contentOf, stateWith}
-use Rattle.sponge.specs.leaf.Ready.{Ready, withSponge}
-use Rattle.sponge.proofs.Contents.{bit-counted, wide-next, ready-state-with, taken-full, taken-open}
+use Rattle.sponge.specs.leaf.Ready.{withSponge}
+use Rattle.sponge.proofs.Contents.{changed, with-changed, ready-content, counted, wide-next, bit-fills, bit-leaves}
 use Rattle.sponge.proofs.pieces.take_bit.Statement.{statement}
 use Rattle.sponge.proofs.pieces.take_bit.Tie as tie
 
--- the state that the bit is added to, with the total after it
-next : (c : tie.After-count-bit) → let s = c .before .before .args .state in
-    c .count-bit .result
-    ≡ stateWith (s .instance) (s .phase) (record { total = s .total + 1; sponge = addBit (instanceOf (s .instance)) (place (instanceOf (s .instance)) (s .total)) (c .before .before .args .bit) (contentOf s .sponge) })
-next c = c .count-bit .ensures ∙ bit-counted (c .before .before .args .state) _ _ (c .before .add-bit .ensures)
+-- the state once the bit is added and counted
+next-state : (c : tie.After-add-bit) → let s = c .before .args .state in let t = c .add-bit .result in
+    changed (t .phase) (t .total + 1) t ≡ stateWith (s .instance) (s .phase) (counted s (c .before .args .bit))
+unfolding withSponge stateWith contentOf
+next-state c = with-changed (λ t. t .phase) (λ t. t .total + 1) (c .before .args .state) (c .add-bit .result) _ (c .add-bit .ensures)
 
 add-bit-requires : tie.Need-add-bit-requires
 add-bit-requires c κs = (c .pre .0 .zero-past, c .pre .1)
 
-count-bit-requires : tie.Need-count-bit-requires
-unfolding withSponge stateWith
-count-bit-requires c κs = omega (arith, ap (λ (s : State). s .total) (c .add-bit .ensures), c .before .pre)
+add-next : tie.Need-add-next
+unfolding withSponge stateWith contentOf
+add-next c = omega (arith, ap (λ (t : State). t .total) (c .before .add-bit .ensures), c .before .before .pre .2)
 
 cast-if1 : tie.Need-cast-if1
 cast-if1 c = search needs
-
-rate-requires : tie.Need-rate-requires
-rate-requires c κs = tt
 
 rem-if1 : tie.Need-rem-if1
 rem-if1 c = omega (arith, regular (c .before .before .before .before .args .state .instance) .some-rate)
 
 run-p-requires : tie.Need-run-p-requires
-unfolding stateWith addBit contentOf
+unfolding withSponge stateWith addBit contentOf
 run-p-requires c κs =
     let start = c .before .before .before .before .before in
     let s = start .args .state in
-    let e = next (c .before .before .before) in (
-      subst (λ (t : State). Ready t (start .args .width)) (sym e)
-          (ready-state-with s (start .args .width) (s .phase) _ (start .pre .0) (wide-next s (start .args .bit))),
-      omega (arith, ap (λ (t : State). t .runs) e, start .pre),
+    let at = c .before .before .before .before in (
+      ready-content (s .instance) (s .phase) (counted s (start .args .bit)) (wide-next s (start .args .bit)) _ (next-state at) (start .args .width) (start .pre .0 .known) (start .pre .0 .width),
+      omega (
+        arith,
+        ap (λ (t : State). t .runs) (at .add-bit .ensures),
+        start .pre .2,
+        start .pre .3,
+        div-le-self (s .total) (instanceOf (s .instance) .r),
+      ),
     )
 
+-- the total after the bit, modulo r, as the code finds it
+remainder : (c : tie.After-rate) → let s = c .before .before .before .before .args .state in
+    (c .before .before .before .add-bit .result .total + 1) % c .rate .result ≡ (s .total + 1) % instanceOf (s .instance) .r
+unfolding withSponge stateWith contentOf
+remainder c = ap₂ (λ (n r : ℕ). (n + 1) % r) (ap (λ (t : State). t .total) (c .before .before .before .add-bit .ensures)) (c .rate .ensures)
+
 returns : tie.Need-returns
-unfolding stateWith
 returns c =
     let a = c .before .before .before .before .before .before .args in
-    let e = next (c .before .before .before .before) in
-    let full : (a .state .total + 1) % instanceOf (a .state .instance) .r ≡ 0 =
-    sym (ap₂ (λ (n r : ℕ). n % r) (ap (λ (t : State). t .total) e) (c .before .before .rate .ensures)) ∙ c .before .if1 .taken in
-    c .run-p .ensures ∙ taken-full (a .state) (a .bit) (c .before .before .before .before .count-bit .result) e full
+    c .run-p .ensures
+    ∙ bit-fills (a .state) (a .bit) _ (next-state (c .before .before .before .before .before)) (sym (remainder (c .before .before)) ∙ c .before .if1 .taken)
 
 returns-2 : tie.Need-returns-2
-unfolding stateWith
 returns-2 c =
     let a = c .before .before .before .before .before .args in
-    let e = next (c .before .before .before) in
-    e
-    ∙ taken-open (a .state) (a .bit)
-    (λ z. c .if1 .left (ap₂ (λ (n r : ℕ). n % r) (ap (λ (t : State). t .total) e) (c .before .rate .ensures) ∙ z))
+    next-state (c .before .before .before .before) ∙ bit-leaves (a .state) (a .bit) (λ z. c .if1 .left (remainder (c .before) ∙ z))
 
 pub take-bit-spec : {M : Type 1} → statement M
 take-bit-spec =
     tie.close
     (tie.spec
     add-bit-requires
-    count-bit-requires
+    add-next
     cast-if1
-    rate-requires
+    (λ c κs. tt)
     rem-if1
     run-p-requires
     returns

@@ -1,4 +1,4 @@
--- `take_bits` meets its contract: after i turns the first i bits are taken. Assumes nothing.
+-- `take_bits` meets its contract: after i passes the first i bits are taken.
 use mathlib.Core.Path.{_≡_, sym, ap, _∙_}
 use Prim.Native.Nat.{ℕ, _-_, _≤_}
 use native.Mathlib.Omega.{arith}
@@ -11,16 +11,15 @@ use Rattle.quark.specs.Bytes.{tabulate, bitsOf}
 use Rattle.quark.specs.Instance.{instanceOf}
 use Rattle.sponge.specs.Taking.{takeBit, takeBits}
 use Rattle.sponge.specs.Soundness.{contentOf, stateWith}
-use Rattle.sponge.proofs.Contents.{state-with-content, bit-lt, total-after, runs-after, ready-after, taken-next}
+use Rattle.sponge.proofs.Contents.{state-with-content, bit-lt, afterBits, total-after-bits, runs-after-bits, ready-after-bits, next-bit}
 use Rattle.sponge.proofs.pieces.take_bits.Statement.{statement}
 use Rattle.sponge.proofs.pieces.take_bits.Tie as tie
 
 abbrev Inv-loop : tie.InvT-loop
-Inv-loop width bytes count taken₀ i₀ taken i =
-    (taken ≡ stateWith (taken₀ .instance) (taken₀ .phase) (takeBits (instanceOf (taken₀ .instance)) (contentOf taken₀) (bitsOf i bytes))) × (i ≤ count)
+Inv-loop width bytes count last₀ i₀ last i = (last ≡ stateWith (last₀ .instance) (last₀ .phase) (afterBits last₀ bytes i)) × (i ≤ count)
 
 abbrev μ-loop : tie.MeasureT-loop
-μ-loop width bytes count taken₀ i₀ taken i = count - i
+μ-loop width bytes count last₀ i₀ last i = count - i
 
 loop-holds : tie.Need-loop-holds Inv-loop μ-loop
 unfolding takeBits bitsOf tabulate
@@ -39,12 +38,12 @@ take-bit-requires c κs =
     let s = start .args .state in
     let bytes = now (start .args .bytes) in
     let i = c .before .before .loop .i in
-    let t = c .before .before .loop .taken in
+    let t = c .before .before .loop .last in
     let e = c .before .before .loop .inv .0 in (
-      ready-after s t bytes i e (start .args .width) (start .pre .0),
+      ready-after-bits s bytes i t e (start .args .width) (start .pre .0),
       omega (arith, c .bit-at .ensures, bit-lt bytes i),
-      omega (arith, total-after s t bytes i e, start .pre),
-      runs-after s t bytes i e (start .pre .3),
+      omega (arith, total-after-bits s bytes i t e, start .pre),
+      runs-after-bits s bytes i t e (start .pre .3),
     )
 
 add-i : tie.Need-add-i Inv-loop μ-loop
@@ -57,10 +56,10 @@ loop-again : tie.Need-loop-again Inv-loop μ-loop
 loop-again c =
     let a = c .before .before .before .before .before .args in
     let i = c .before .before .before .loop .i in
-    let t = c .before .before .before .loop .taken in (
+    let t = c .before .before .before .loop .last in (
       c .take-bit .ensures
           ∙ ap (λ (x : ℕ). stateWith (t .instance) (t .phase) (takeBit (instanceOf (t .instance)) (contentOf t) x)) (c .before .bit-at .ensures)
-          ∙ taken-next (a .state) t (now (a .bytes)) i (c .before .before .before .loop .inv .0),
+          ∙ next-bit (a .state) (now (a .bytes)) i t (c .before .before .before .loop .inv .0),
       omega arith,
     )
 
@@ -69,8 +68,7 @@ returns c =
     let a = c .before .before .before .args in
     let s = a .state in
     let all : c .before .loop .i ≡ a .count = omega arith in
-    c .before .loop .inv .0
-    ∙ ap (λ (k : ℕ). stateWith (s .instance) (s .phase) (takeBits (instanceOf (s .instance)) (contentOf s) (bitsOf k (now (a .bytes))))) all
+    c .before .loop .inv .0 ∙ ap (λ (k : ℕ). stateWith (s .instance) (s .phase) (afterBits s (now (a .bytes)) k)) all
 
 pub take-bits-spec : {M : Type 1} → statement M
 take-bits-spec =

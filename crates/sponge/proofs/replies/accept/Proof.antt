@@ -1,6 +1,6 @@
--- `accept` meets its contract. Assumes nothing.
+-- `accept` meets its contract.
 use mathlib.Core.Path.{refl}
-use Rattle.permutation.specs.Outcome.{outcomeOf}
+use Rattle.refusals.specs.Outcome.{outcomeOf}
 use Rattle.sponge.specs.Outcomes.{resultOf}
 use Rattle.sponge.proofs.replies.accept.Statement.{statement}
 use Rattle.sponge.proofs.replies.accept.Tie as tie

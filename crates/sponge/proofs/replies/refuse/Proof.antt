@@ -1,6 +1,6 @@
--- `refuse` meets its contract. Assumes nothing.
+-- `refuse` meets its contract.
 use mathlib.Core.Path.{refl}
-use Rattle.permutation.specs.Outcome.{outcomeOf}
+use Rattle.refusals.specs.Outcome.{outcomeOf}
 use Rattle.sponge.specs.Outcomes.{resultOf}
 use Rattle.sponge.proofs.replies.refuse.Statement.{statement}
 use Rattle.sponge.proofs.replies.refuse.Tie as tie

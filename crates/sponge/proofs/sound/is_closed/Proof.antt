@@ -1,4 +1,4 @@
--- `is_closed` meets its contract: it is the test itself. Assumes nothing.
+-- `is_closed` meets its contract: it is the test itself.
 use mathlib.Core.Path.{refl}
 use Rattle.sponge.proofs.sound.is_closed.Statement.{statement}
 use Rattle.sponge.proofs.sound.is_closed.Tie as tie

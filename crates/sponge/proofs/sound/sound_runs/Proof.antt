@@ -1,4 +1,4 @@
--- `sound_runs` meets its contract: the quotient is at most the total, so the sum does not wrap. Assumes nothing.
+-- `sound_runs` meets its contract: the quotient is at most the total, so the sum does not wrap.
 use mathlib.Core.Path.{ap₂}
 use Prim.Native.Nat.{ℕ, _+_, _/_}
 use native.Mathlib.Nat.{div-le-self}

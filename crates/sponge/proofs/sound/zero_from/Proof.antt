@@ -1,4 +1,4 @@
--- `zero_from` meets its contract: the bytes from i on decide, and those before are zero. Assumes nothing.
+-- `zero_from` meets its contract: the bytes from i on decide, and those before are zero.
 use mathlib.Core.Bool.{false}
 use mathlib.Core.List.{List}
 use mathlib.Core.Path.{_≡_, sym, _∙_}

@@ -1,57 +1,27 @@
--- `words::feedback::h_s` meets its contract. Assumes nothing.
-use mathlib.Core.Path.{sym, _∙_}
-use Prim.Native.Nat.{ℕ, _+_, _*_, _/_, _^_}
-use native.Mathlib.Omega.{arith}
+-- `words::feedback::h_s` meets its contract: the windows are added tap by tap, until the taps are all of h.
+use mathlib.Core.List.{[], _∷_}
 use borrow.Author.Needs.{needs}
-use lib.Bits.{bitXor}
-use Rattle.quark.specs.Feedback.{sumAt}
 use Rattle.quark.specs.Instance.{S}
-use Rattle.quark.specs.Word.{wordBit}
-use Rattle.words.proofs.Sums.{xor-sum}
-use Rattle.words.proofs.Feeds.{seen-sum, h-split}
+use Rattle.words.proofs.FeedbackWords.{one-tap, h-mixed, h-more-x, h-more-y, h-all}
 use Rattle.words.proofs.feedback.h_s.Statement.{statement}
 use Rattle.words.proofs.feedback.h_s.Tie as tie
 
-mixed-at-requires : tie.Need-mixed-at-requires
-mixed-at-requires c κs = search needs
-
-three-requires : tie.Need-three-requires
-three-requires c κs = search needs
-
-three-requires-2 : tie.Need-three-requires-2
-three-requires-2 c κs = search needs
-
-three-requires-3 : tie.Need-three-requires-3
-three-requires-3 c κs = search needs
-
-three-requires-4 : tie.Need-three-requires-4
-three-requires-4 c κs = search needs
-
-window-requires : tie.Need-window-requires
-window-requires c κs = search needs
-
 returns : tie.Need-returns
-unfolding sumAt S
+unfolding S
 returns c k b =
-    let s4 = c .before in
-    let s3 = s4 .before in
-    let s2 = s3 .before in
-    let s1 = s2 .before in
-    let s0 = s1 .before in
-    let a = s0 .before .args in
-    let x : ℕ = a .x .hi * 2 ^ 64 + a .x .lo in
-    let y : ℕ = a .y .hi * 2 ^ 64 + a .y .lo in
-    let e1 = xor-sum k (s0 .mixed-at .result) (s1 .three .result) _ _ (s0 .mixed-at .ensures k b) (s1 .three .ensures k b) in
-    let w1 : ℕ = bitXor (s0 .mixed-at .result) (s1 .three .result) in
-    let e2 = xor-sum k w1 (s2 .three2 .result) _ _ e1 (s2 .three2 .ensures k b) in
-    let w2 : ℕ = bitXor w1 (s2 .three2 .result) in
-    let e3 = xor-sum k w2 (s3 .three3 .result) _ _ e2 (s3 .three3 .ensures k b) in
-    let w3 : ℕ = bitXor w2 (s3 .three3 .result) in
-    let e4 = xor-sum k w3 (s4 .three4 .result) _ _ e3 (s4 .three4 .ensures k b) in
-    let w4 : ℕ = bitXor w3 (s4 .three4 .result) in
-    let e5 = xor-sum k w4 (c .window .result) _ _ e4 (seen-sum y 111 k b (c .window .ensures)) in
-    let w5 : ℕ = bitXor w4 (c .window .result) in
-    e5 ∙ sym (h-split (S .taps) (wordBit (x / 2 ^ k)) (wordBit (y / 2 ^ k)) (λ i. wordBit (a .l) k) ∙ omega arith)
+    let p4 = c .before in
+    let p3 = p4 .before in
+    let p2 = p3 .before in
+    let p1 = p2 .before in
+    let p0 = p1 .before in
+    let a = p0 .before .args in
+    let h0 = h-mixed (S .taps) (a .x) (a .y) (a .l) k (p0 .mixed-at .result) (p0 .mixed-at .ensures k b) in
+    let h1 = h-more-x h0 (1 ∷ 7 ∷ 47 ∷ []) (record { bit = p1 .three-taps .ensures k b }) in
+    let h2 = h-more-x h1 (58 ∷ 90 ∷ 105 ∷ []) (record { bit = p2 .three-taps2 .ensures k b }) in
+    let h3 = h-more-y h2 (3 ∷ 18 ∷ 34 ∷ []) (record { bit = p3 .three-taps3 .ensures k b }) in
+    let h4 = h-more-y h3 (71 ∷ 80 ∷ 91 ∷ []) (record { bit = p4 .three-taps4 .ensures k b }) in
+    let h5 = h-more-y h4 (111 ∷ []) (one-tap (a .y) 111 k b (c .window .ensures)) in
+    h-all h5
 
 pub h-s-spec : {M : Type 1} → statement M
-h-s-spec = tie.close (tie.spec mixed-at-requires three-requires three-requires-2 three-requires-3 three-requires-4 window-requires returns)
+h-s-spec = tie.close (tie.spec (λ c κs. search needs) (λ c κs. search needs) (λ c κs. search needs) (λ c κs. search needs) (λ c κs. search needs) (λ c κs. search needs) returns)

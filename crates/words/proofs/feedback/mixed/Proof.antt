@@ -1,9 +1,9 @@
--- `words::feedback::mixed` meets its contract. Assumes nothing.
+-- `words::feedback::mixed` meets its contract.
 use mathlib.Core.Path.{_≡_}
 use Prim.Native.Nat.{ℕ, _%_}
 use native.Mathlib.Nat.{mod-add-mod}
 use Rattle.quark.specs.Word.{wordBit}
-use Rattle.words.specs.leaf.Turns.{mixes}
+use Rattle.words.specs.leaf.FeedbackWords.{mixes}
 use Rattle.words.proofs.Sums.{_&_, _⊕_, bit-&, bit-⊕}
 use Rattle.words.proofs.feedback.mixed.Statement.{statement}
 use Rattle.words.proofs.feedback.mixed.Tie as tie

@@ -1,10 +1,10 @@
--- `words::feedback::mixed_at` meets its contract. Assumes nothing.
+-- `words::feedback::mixed_at` meets its contract.
 use mathlib.Core.Path.{_∙_}
 use Prim.Native.Nat.{ℕ, _+_, _*_, _%_, _^_}
 use borrow.Author.Needs.{needs}
 use Rattle.quark.specs.Word.{wordBit}
-use Rattle.words.specs.leaf.Turns.{mixes}
-use Rattle.words.proofs.Sums.{seen}
+use Rattle.words.specs.leaf.FeedbackWords.{mixes}
+use Rattle.words.proofs.Sums.{window-bit}
 use Rattle.words.proofs.feedback.mixed_at.Statement.{statement}
 use Rattle.words.proofs.feedback.mixed_at.Tie as tie
 
@@ -36,11 +36,11 @@ returns c k h =
     let a = w1 .before .args in
     let x : ℕ = a .x .hi * 2 ^ 64 + a .x .lo in
     let y : ℕ = a .y .hi * 2 ^ 64 + a .y .lo in
-    let e1 = seen y (a .y-low) k h (w1 .window .ensures) in
-    let e2 = seen x (a .x-low) k h (w2 .window2 .ensures) in
-    let e3 = seen x (a .x-mid) k h (w3 .window3 .ensures) in
-    let e4 = seen x (a .x-high) k h (w4 .window4 .ensures) in
-    let e5 = seen y (a .y-high) k h (w5 .window5 .ensures) in
+    let e1 = window-bit y (a .y-low) k h (w1 .window .ensures) in
+    let e2 = window-bit x (a .x-low) k h (w2 .window2 .ensures) in
+    let e3 = window-bit x (a .x-mid) k h (w3 .window3 .ensures) in
+    let e4 = window-bit x (a .x-high) k h (w4 .window4 .ensures) in
+    let e5 = window-bit y (a .y-high) k h (w5 .window5 .ensures) in
     c .mixed .ensures k ∙ (λ i. mixes (wordBit (a .l) k) (e1 i) (e2 i) (e3 i) (e4 i) (e5 i) % 2)
 
 pub mixed-at-spec : {M : Type 1} → statement M

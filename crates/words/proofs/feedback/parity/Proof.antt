@@ -1,4 +1,4 @@
--- `words::feedback::parity` meets its contract. Assumes nothing.
+-- `words::feedback::parity` meets its contract.
 use Prim.Native.Nat.{_^_, _<_}
 use borrow.Author.Needs.{needs}
 use Rattle.words.proofs.Sums.{parity-of-words}

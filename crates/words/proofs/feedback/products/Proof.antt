@@ -1,9 +1,9 @@
--- `words::feedback::products` meets its contract. Assumes nothing.
+-- `words::feedback::products` meets its contract.
 use mathlib.Core.Path.{_≡_}
 use Prim.Native.Nat.{ℕ, _%_}
 use native.Mathlib.Nat.{mod-add-mod}
 use Rattle.quark.specs.Word.{wordBit}
-use Rattle.words.specs.leaf.Turns.{products}
+use Rattle.words.specs.leaf.FeedbackWords.{products}
 use Rattle.words.proofs.Sums.{_&_, _⊕_, bit-&, bit-⊕}
 use Rattle.words.proofs.feedback.products.Statement.{statement}
 use Rattle.words.proofs.feedback.products.Tie as tie

@@ -1,9 +1,9 @@
--- `words::feedback::products_at` meets its contract. Assumes nothing.
+-- `words::feedback::products_at` meets its contract.
 use mathlib.Core.Path.{_∙_}
 use Prim.Native.Nat.{ℕ, _+_, _*_, _%_, _^_}
 use borrow.Author.Needs.{needs}
-use Rattle.words.specs.leaf.Turns.{products}
-use Rattle.words.proofs.Sums.{seen}
+use Rattle.words.specs.leaf.FeedbackWords.{products}
+use Rattle.words.proofs.Sums.{window-bit}
 use Rattle.words.proofs.feedback.products_at.Statement.{statement}
 use Rattle.words.proofs.feedback.products_at.Tie as tie
 
@@ -54,16 +54,16 @@ returns c k h =
     let w1 = w2 .before in
     let a = w1 .before .args in
     let n : ℕ = a .r .hi * 2 ^ 64 + a .r .lo in
-    let e1 = seen n (a .a1) k h (w1 .window .ensures) in
-    let e2 = seen n (a .a3) k h (w2 .window2 .ensures) in
-    let e3 = seen n (a .a4) k h (w3 .window3 .ensures) in
-    let e4 = seen n (a .a5) k h (w4 .window4 .ensures) in
-    let e5 = seen n (a .a6) k h (w5 .window5 .ensures) in
-    let e6 = seen n (a .a7) k h (w6 .window6 .ensures) in
-    let e7 = seen n (a .a8) k h (w7 .window7 .ensures) in
-    let e8 = seen n (a .a10) k h (w8 .window8 .ensures) in
-    let e9 = seen n (a .a11) k h (w9 .window9 .ensures) in
-    let e10 = seen n (a .a12) k h (w10 .window10 .ensures) in
+    let e1 = window-bit n (a .a1) k h (w1 .window .ensures) in
+    let e2 = window-bit n (a .a3) k h (w2 .window2 .ensures) in
+    let e3 = window-bit n (a .a4) k h (w3 .window3 .ensures) in
+    let e4 = window-bit n (a .a5) k h (w4 .window4 .ensures) in
+    let e5 = window-bit n (a .a6) k h (w5 .window5 .ensures) in
+    let e6 = window-bit n (a .a7) k h (w6 .window6 .ensures) in
+    let e7 = window-bit n (a .a8) k h (w7 .window7 .ensures) in
+    let e8 = window-bit n (a .a10) k h (w8 .window8 .ensures) in
+    let e9 = window-bit n (a .a11) k h (w9 .window9 .ensures) in
+    let e10 = window-bit n (a .a12) k h (w10 .window10 .ensures) in
     c .products .ensures k ∙ (λ i. products (e1 i) (e2 i) (e3 i) (e4 i) (e5 i) (e6 i) (e7 i) (e8 i) (e9 i) (e10 i) % 2)
 
 pub products-at-spec : {M : Type 1} → statement M

@@ -1,8 +1,8 @@
--- `words::feedback::products_d` meets its contract. Assumes nothing.
+-- `words::feedback::products_d` meets its contract.
 use borrow.Author.Needs.{needs}
 use Rattle.quark.specs.Feedback.{exchange}
 use Rattle.quark.specs.Instance.{D}
-use Rattle.words.specs.leaf.Turns.{productsAt}
+use Rattle.words.specs.leaf.FeedbackWords.{productsAt}
 use Rattle.words.proofs.feedback.products_d.Statement.{statement}
 use Rattle.words.proofs.feedback.products_d.Tie as tie
 

@@ -1,5 +1,5 @@
 -- `words::feedback::sums` meets its contract. The invariant: the mask is moved up for the step that comes next, and the bits are
--- those of the steps done. Assumes nothing.
+-- those of the steps done.
 use mathlib.Core.Path.{_≡_}
 use Prim.Native.Nat.{ℕ, _≤_, _<_, _*_, _-_, _^_}
 use native.Mathlib.Omega.{arith}

@@ -1,4 +1,4 @@
--- `words::feedback::sums_past` meets its contract. Assumes nothing.
+-- `words::feedback::sums_past` meets its contract.
 use native.Mathlib.Omega.{arith}
 use borrow.Author.Needs.{needs}
 use lib.Dec.{lit<}

@@ -1,4 +1,4 @@
--- `words::fitting::is_half` meets its contract: the high word decides. Assumes nothing.
+-- `words::fitting::is_half` meets its contract: the high word decides.
 use mathlib.Core.Path.{refl, sym, ap, _∙_}
 use Prim.Native.Nat.{_^_, _<_}
 use borrow.Author.Needs.{needs}

@@ -1,11 +1,11 @@
 -- `words::masks::masks_d` meets its contract: the places of the masks are the linear taps, no place is above 111, and four
--- steps read all but the tap 0 in one word, by computation. Assumes nothing.
+-- steps read all but the tap 0 in one word, by computation.
 use mathlib.Core.Path.{refl}
 use lib.Dec.{lit<}
 use Rattle.quark.specs.Feedback.{exchange}
 use Rattle.quark.specs.Instance.{D}
 use Rattle.quark.specs.leaf.Places.{putIf, placesFrom}
-use Rattle.words.specs.leaf.Turns.{linearTaps}
+use Rattle.words.specs.leaf.FeedbackWords.{linearTaps}
 use Rattle.words.proofs.masks.masks_d.Statement.{statement}
 use Rattle.words.proofs.masks.masks_d.Tie as tie
 

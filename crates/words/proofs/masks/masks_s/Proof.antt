@@ -1,10 +1,10 @@
--- `words::masks::masks_s` meets its contract: the places of the masks are the linear taps, and no place is above 111, by computation. Assumes nothing.
+-- `words::masks::masks_s` meets its contract: the places of the masks are the linear taps, and no place is above 111, by computation.
 use mathlib.Core.Path.{refl}
 use lib.Dec.{lit<}
 use Rattle.quark.specs.Feedback.{exchange}
 use Rattle.quark.specs.Instance.{S}
 use Rattle.quark.specs.leaf.Places.{putIf, placesFrom}
-use Rattle.words.specs.leaf.Turns.{linearTaps}
+use Rattle.words.specs.leaf.FeedbackWords.{linearTaps}
 use Rattle.words.proofs.masks.masks_s.Statement.{statement}
 use Rattle.words.proofs.masks.masks_s.Tie as tie
 

@@ -1,4 +1,4 @@
--- `words::registers::down` meets its contract. Assumes nothing.
+-- `words::registers::down` meets its contract.
 use mathlib.Core.Path.{ap, _∙_}
 use Prim.Native.Nat.{ℕ, _+_, _*_, _/_, _^_, _<_}
 use borrow.Author.Needs.{needs}

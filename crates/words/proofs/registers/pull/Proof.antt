@@ -1,4 +1,4 @@
--- `words::registers::pull` meets its contract. Assumes nothing.
+-- `words::registers::pull` meets its contract.
 use mathlib.Core.Path.{_≡_, ap, _∙_}
 use Prim.Native.Nat.{ℕ, _+_, _-_, _*_, _/_, _%_, _^_, _<_}
 use native.Mathlib.Omega.{arith}
@@ -43,12 +43,12 @@ returns : tie.Need-returns
 returns c =
     let s = c .before .before in
     let a = s .args in
-    let e : ℕ = 128 - a .width - a .place in
+    let e : ℕ = 128 - a .width - a .kept in
     let er : 64 - a .width + a .width ≡ 64 = omega arith in
     let ee : 64 - e + e ≡ 64 = omega arith in
-    let ep : 64 - e + (64 - a .width) ≡ a .place = omega arith in
+    let ep : 64 - e + (64 - a .width) ≡ a .kept = omega arith in
     ap (λ (x : ℕ). x * 2 ^ e % 2 ^ 64 / 2 ^ e * 2 ^ 64 + bitOr (a .new) (a .r .lo * 2 ^ a .width % 2 ^ 64)) (c .before .window .ensures)
-    ∙ pull-words 64 (64 - e) (64 - a .width) (a .width) e (a .place) (a .r .hi) (a .r .lo) (a .new) er ee ep (low s) (s .pre .0)
+    ∙ pull-words 64 (64 - e) (64 - a .width) (a .width) e (a .kept) (a .r .hi) (a .r .lo) (a .new) er ee ep (low s) (s .pre .0)
 
 pub pull-spec : {M : Type 1} → statement M
 pull-spec = tie.close (tie.spec sub-above sub-above-2 sub-window window-requires cast-t8 shl-t9 cast-t10 shr-t11 shl-t13 returns)

@@ -1,4 +1,4 @@
--- `words::registers::push` meets its contract. Assumes nothing.
+-- `words::registers::push` meets its contract.
 use mathlib.Core.Path.{ap, _∙_}
 use Prim.Native.Nat.{ℕ, _+_, _-_, _*_, _/_, _%_, _^_, _<_}
 use borrow.Author.Needs.{needs}
@@ -39,15 +39,15 @@ returns : tie.Need-returns
 returns c =
     let a = c .before .before .args in
     let n : ℕ = a .r .hi * 2 ^ 64 + a .r .lo in
-    ap (λ (x : ℕ). a .new / 2 ^ (64 - a .place) * 2 ^ 64 + bitOr x (a .new * 2 ^ a .place % 2 ^ 64)) (c .before .window .ensures)
-    ∙ push-low 64 n (a .width) (a .place) (a .new) (search needs) (search needs)
+    ap (λ (x : ℕ). a .new / 2 ^ (64 - a .kept) * 2 ^ 64 + bitOr x (a .new * 2 ^ a .kept % 2 ^ 64)) (c .before .window .ensures)
+    ∙ push-low 64 n (a .width) (a .kept) (a .new) (search needs) (search needs)
 
 returns-2 : tie.Need-returns-2
 returns-2 c =
     let s = c .before .before .before in
     let a = s .args in
-    ap (λ (x : ℕ). bitOr (a .r .hi / 2 ^ a .width) (a .new * 2 ^ (a .place - 64) % 2 ^ 64) * 2 ^ 64 + x) (c .before .before .window .ensures)
-    ∙ push-high 64 (a .r .hi) (a .r .lo) (a .width) (a .place) (a .new) (search needs) (search needs) (words s .1) (search needs) (search needs)
+    ap (λ (x : ℕ). bitOr (a .r .hi / 2 ^ a .width) (a .new * 2 ^ (a .kept - 64) % 2 ^ 64) * 2 ^ 64 + x) (c .before .before .window .ensures)
+    ∙ push-high 64 (a .r .hi) (a .r .lo) (a .width) (a .kept) (a .new) (search needs) (search needs) (words s .1) (search needs) (search needs)
 
 pub push-spec : {M : Type 1} → statement M
 push-spec = tie.close (tie.spec window-requires sub-t8 cast-t9 shr-t10 shl-t12 shr-t15 cast-t17 shl-t18 returns returns-2)

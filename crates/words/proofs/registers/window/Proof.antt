@@ -1,4 +1,4 @@
--- `words::registers::window` meets its contract. Assumes nothing.
+-- `words::registers::window` meets its contract.
 use Prim.Native.Nat.{_^_, _<_}
 use borrow.Author.Needs.{needs}
 use Rattle.words.proofs.TwoWords.{window-zero, window-within, window-above}

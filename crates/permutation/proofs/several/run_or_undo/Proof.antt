@@ -1,0 +1,83 @@
+-- `several::run_or_undo` meets its contract: the words are loaded from the cells, taken the steps or the steps back, and written back.
+use mathlib.Core.List.{List}
+use mathlib.Core.Path.{_≡_, ap, _∙_}
+use Prim.Native.Nat.{ℕ, _+_, _≤_}
+use native.Mathlib.Omega.{arith}
+use lib.ListN.{length}
+use Rattle.quark.specs.Instance.{instanceOf}
+use Rattle.words.specs.Words.{value}
+use Rattle.permutation.specs.leaf.Several.{written}
+use Rattle.permutation.proofs.CellWords.{length-written, ran-or-undone-words, loaded-fit}
+use Rattle.permutation.proofs.Widths.{half-fits}
+use Rattle.permutation.proofs.several.run_or_undo.Statement.{statement}
+use Rattle.permutation.proofs.several.run_or_undo.Tie as tie
+
+half-of-requires : tie.Need-half-of-requires
+half-of-requires c κs = tt
+
+-- the cells have room for both halves
+room : (c : tie.After-half-of) → let half = c .half-of .result in
+    (64 ≤ half) × (half ≤ 128) × (half + half ≤ length (c .before .args .bits .now))
+room c =
+    let f = half-fits (c .before .args .instance) in
+    let e = c .half-of .ensures .0 in
+    let l = c .before .pre .0 .full in
+    (omega arith, omega arith, omega arith)
+
+load-requires : tie.Need-load-requires
+load-requires c κs =
+    let s = c .before .before in
+    let r = room (c .before) in
+    (omega (arith, s .pre .0 .full), r .0, r .1, s .pre .0 .full, s .pre .0 .single)
+
+load-requires-2 : tie.Need-load-requires-2
+load-requires-2 c κs =
+    let half = c .before .before .before in
+    let s = half .before in
+    let r = room half in
+    (omega (arith, s .pre .0 .full), r .0, r .1, s .pre .0 .full, s .pre .0 .single)
+
+run-or-undo-words-requires : tie.Need-run-or-undo-words-requires
+run-or-undo-words-requires c κs = tt
+
+save-requires : tie.Need-save-requires
+save-requires c κs =
+    let half = c .before .before .before .before .before .before .before .before in
+    let s = half .before in
+    let r = room half in
+    (omega (arith, s .pre .0 .full), r .0, r .1, s .pre .0 .full)
+
+-- the cells once X is written
+first : (c : tie.After-save) → let stepped = c .before .before .before .before in
+    let half = stepped .before .before .before .before .before in
+    c .save .last .1 .0 ≡ written (half .before .args .bits .now) 0 (half .half-of .result) (value (stepped .run-or-undo-words .result .x))
+first c = c .save .ensures
+
+save-requires-2 : tie.Need-save-requires-2
+save-requires-2 c κs =
+    let one = c .before in
+    let half = one .before .before .before .before .before .before .before .before .before in
+    let s = half .before in
+    let r = room half in
+    (omega (arith, s .pre .0 .full), r .0, r .1, ap length (first one) ∙ length-written (s .args .bits .now) 0 (half .half-of .result) _ (omega arith) ∙ s .pre .0 .full)
+
+returns : tie.Need-returns
+returns c =
+    let one = c .before .before in
+    let stepped = one .before .before .before .before in
+    let y = stepped .before in
+    let x = y .before .before in
+    let half = x .before .before in
+    let s = half .before in
+    let a = s .args in
+    let h = half .half-of .result in
+    let e = half .half-of .ensures .0 in
+    let f = half-fits (a .instance) in
+    let after = stepped .run-or-undo-words in
+    c .save2 .ensures
+    ∙ ap (λ (t : List ℕ). written t h h (value (after .result .y))) (first one)
+    ∙ ran-or-undone-words (instanceOf (a .instance)) (a .bits .now) (f .1) (omega (arith, s .pre .0 .full)) (x .load .result) (y .load2 .result) (a .l) (a .count) (after .result) (a .inverse) h e (x .load .ensures) (y .load2 .ensures)
+    (after .ensures (loaded-fit (s .pre .0) (s .pre .1) (x .load .result) (y .load2 .result) h h e (x .load .ensures) (y .load2 .ensures)))
+
+pub run-or-undo-spec : {M : Type 1} → statement M
+run-or-undo-spec = tie.close (tie.spec half-of-requires load-requires load-requires-2 run-or-undo-words-requires save-requires save-requires-2 returns)

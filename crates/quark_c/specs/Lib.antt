@@ -1,2 +1,0 @@
--- What a C host gets beside an outcome's number.
-pub mod Place

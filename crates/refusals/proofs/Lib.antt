@@ -1,0 +1,3 @@
+-- The laws of lines in checking order and of outcomes.
+pub mod FirstLine
+pub mod Outcome

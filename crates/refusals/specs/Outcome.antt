@@ -1,0 +1,34 @@
+-- What a call answers (document 01, "Turned back, in checking order").
+use Prim.Native.Nat.{ℕ, zero, suc}
+use Rattle.refusals.specs.declared.Answer.{Answer}
+use Rattle.refusals.specs.declared.Answer.the-variants.{Accepted, Refused}
+use Rattle.refusals.specs.declared.Refusal.{Refusal}
+
+-- accepted, with the values that the call's paragraph names; or turned back, with a line's number and a place
+pub data Outcome (A : Type 0) : Type 0 where
+  accepted : A → Outcome A
+  refused : (number place : ℕ) → Outcome A
+
+-- the outcome of a call whose lines give a number: place 0 outside of a journal
+unfoldable pub outcome : {A : Type 0} → (number : ℕ) → A → Outcome A
+outcome zero values = accepted values
+outcome (suc number) values = refused (suc number) 0
+
+-- what an answer without values stands for
+unfoldable pub outcomeOf : Answer → Outcome (Unit {0})
+outcomeOf Accepted = accepted tt
+outcomeOf (Refused r) = refused (r .number) (r .place)
+
+-- the number that stands for an outcome in C: 0 where the call was accepted, else the line's
+unfoldable pub numberOf : {A : Type 0} → Outcome A → ℕ
+numberOf (accepted values) = 0
+numberOf (refused number place) = number
+
+-- the place that stands for an outcome in C: 0 where the call was accepted
+unfoldable pub placeOf : {A : Type 0} → Outcome A → ℕ
+placeOf (accepted values) = 0
+placeOf (refused number place) = place
+
+-- both, as a refusal: two zeros where the call was accepted
+unfoldable pub refusalOf : {A : Type 0} → Outcome A → Refusal
+refusalOf outcome = record { number = numberOf outcome; place = placeOf outcome }

@@ -1,0 +1,28 @@
+// How a call is turned back (document 01, "Turned back, in checking order"): a refusal, an answer that has no values of its own, and the
+// first line that holds. Every crate above uses these.
+ghost use mathlib.Core.Path.{_≡_};
+ghost use Rattle.refusals.specs.Outcome.{outcomeOf, numberOf};
+
+pub mod lines;
+
+// Why a call was refused: the number of the first line of document 01 that holds, and a place, which is 0 outside of a journal.
+pub struct Refusal {
+    pub number: u32,
+    pub place: usize,
+}
+
+// The answer of a call that hands back nothing but a buffer.
+pub enum Answer {
+    Accepted,
+    Refused(Refusal),
+}
+
+// The number that an answer stands for: 0 where the call was accepted, else the line's. It refuses nothing.
+pub fn number_of(answer: Answer) -> u32
+    ensures { λ r. ⌜ r ≡ numberOf (outcomeOf answer) ⌝ }
+{
+    match answer {
+        Answer::Accepted => 0,
+        Answer::Refused(refusal) => refusal.number,
+    }
+}

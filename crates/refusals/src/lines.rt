@@ -1,0 +1,14 @@
+// Lines in checking order (document 01, "Turned back, in checking order"). A crate's own lines stand in its module `lines`; the number of a
+// wrong length is here, since three crates refuse by it.
+ghost use mathlib.Core.Bool.{cond};
+ghost use mathlib.Core.Path.{_≡_};
+
+// 5. A buffer of a state or a digest does not have its instance's length, or a key, a previous seal, a body or a record not its own.
+pub const WRONG_LENGTH: u32 = 5;
+
+// The number of a line that holds, or what the lines after it give. A chain of calls, last line first, gives the first line that holds.
+pub fn first(holds: bool, number: u32, rest: u32) -> u32
+    ensures { λ r. ⌜ r ≡ cond holds number rest ⌝ }
+{
+    if holds { number } else { rest }
+}
