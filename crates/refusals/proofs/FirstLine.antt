@@ -13,12 +13,6 @@ use Rattle.refusals.specs.Lines.{line5, firstLine, numbered}
 pub in-front : {line holds : Bool} {others rest n : ℕ} (number : ℕ) → n ≡ cond holds number rest → holds ≡ line → rest ≡ others → n ≡ cond line number others
 in-front number e test after = cc
 
--- no line holds exactly when the first does not, and none after it does
-pub passed : (holds : Bool) (number : ℕ) (lines : List (Bool × ℕ)) → firstLine ((holds, suc number) ∷ lines) ≡ 0 → (holds ≡ false) × (firstLine lines ≡ 0)
-unfolding firstLine
-passed true number lines e = absurd (suc-ne-zero number e)
-passed false number lines e = (refl, e)
-
 -- ---- all lines at once, so that a law which uses some of them does not repeat their order
 
 -- none of some lines holds

@@ -1,4 +1,5 @@
-// The rate, where the last r bits stand, how often a digest takes them, and where the next bit goes (document 01, "Taps and feedback" and "Pieces and finish").
+// The rate, where the last r bits stand, how often a digest takes them, and where the next bit goes (document 01, "Taps and feedback" and
+// "Pieces and finish").
 ghost use mathlib.Core.Path.{_≡_};
 ghost use Prim.Native.Nat.{_-_, _/_};
 ghost use Rattle.quark.specs.Instance.{instanceOf};

@@ -123,7 +123,7 @@ impl Work {
         }
     }
 
-    /// Measures all functions turn by turn, so that a slow spell of the machine meets all of them and their ratios hold.
+    /// Measures all functions round by round, so that a slow spell of the machine meets all of them and their ratios hold.
     fn measure(&mut self, buffer: &mut [u8]) {
         for _ in 0..self.rounds {
             self.cell.round(buffer, self.calls_at_once);

@@ -40,7 +40,7 @@ pub fn store_bytes(bits: &[u8; 256], buffer: &mut [u8]) {
 
 // Cells and registers.
 
-fn gather(bits: &[u8; 256], from: usize, n: usize) -> u64 {
+fn read_word(bits: &[u8; 256], from: usize, n: usize) -> u64 {
     let mut word = 0;
     for i in (0..n).rev() {
         word = word * 2 + u64::from(bits[from + i]);
@@ -48,7 +48,7 @@ fn gather(bits: &[u8; 256], from: usize, n: usize) -> u64 {
     word
 }
 
-fn scatter(word: u64, n: usize, bits: &mut [u8; 256], from: usize) {
+fn write_word(word: u64, n: usize, bits: &mut [u8; 256], from: usize) {
     let mut rest = word;
     for i in 0..n {
         bits[from + i] = (rest % 2) as u8;
@@ -57,12 +57,12 @@ fn scatter(word: u64, n: usize, bits: &mut [u8; 256], from: usize) {
 }
 
 fn load(bits: &[u8; 256], from: usize, half: usize) -> Register {
-    Register { hi: gather(bits, from + 64, half - 64), lo: gather(bits, from, 64) }
+    Register { hi: read_word(bits, from + 64, half - 64), lo: read_word(bits, from, 64) }
 }
 
 fn save(r: Register, bits: &mut [u8; 256], from: usize, half: usize) {
-    scatter(r.lo, 64, bits, from);
-    scatter(r.hi, half - 64, bits, from + 64);
+    write_word(r.lo, 64, bits, from);
+    write_word(r.hi, half - 64, bits, from + 64);
 }
 
 /// The 64 bits of a register from bit t on, 0 past its end.
