@@ -137,7 +137,7 @@ pub loaded-fit : {i w l n : ℕ} {s : List ℕ} → Steppable i w l n s → (w �
 loaded-fit {i} {w} {l} {n} given more x y half p e hx hy =
     fits-tested i w n (record { x = x; y = y; l = l })
     (record {
-      known = given .is-instance;
+      is-instance = given .is-instance;
       width = given .is-width;
       more = more;
       whole = given .whole;

@@ -2,7 +2,7 @@
 use mathlib.Core.Bool.{true}
 use mathlib.Core.Logic.{⊎-elim}
 use mathlib.Core.Path.{_≡_, refl, ap, ap₂, _∙_}
-use Prim.Native.Nat.{ℕ, _+_, _%_, _≤_}
+use Prim.Native.Nat.{ℕ, _%_, _≤_}
 use native.Mathlib.Decide.{ℕ-discrete}
 use native.Mathlib.Nat.{mod-one}
 use lib.Dec.{lit≤}
@@ -11,12 +11,10 @@ use Rattle.quark.specs.Instance.{U, D, S, instanceOf, isWidth}
 use Rattle.quark.proofs.Instance.{of-each}
 use Rattle.words.proofs.Widths.{several}
 
--- the bits of a half and of a state, as the cells have them
-pub half-fits : (i : ℕ) → (64 ≤ instanceOf i .taps .half) × (instanceOf i .b ≡ instanceOf i .taps .half + instanceOf i .taps .half) × (instanceOf i .b ≤ 256)
+-- a half fills the low word of a register
+pub word-filled : (i : ℕ) → 64 ≤ instanceOf i .taps .half
 unfolding U D S
-half-fits =
-    of-each (λ I. (64 ≤ I .taps .half) × (I .b ≡ I .taps .half + I .taps .half) × (I .b ≤ 256)) (lit≤ tt, refl, lit≤ tt) (lit≤ tt, refl, lit≤ tt)
-    (lit≤ tt, refl, lit≤ tt)
+word-filled = of-each (λ I. 64 ≤ I .taps .half) (lit≤ tt) (lit≤ tt) (lit≤ tt)
 
 -- P's steps are whole groups of a width
 eights : (i : ℕ) → rounds (instanceOf i .taps) % 8 ≡ 0

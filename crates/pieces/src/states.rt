@@ -1,4 +1,4 @@
-// States with any fields. No other function of this program names all fields of a state.
+// States with any fields. No other function of this program makes a state field by field.
 use sponge::State;
 
 // Bytes with the bits of a state: 17, 22 or 32 of them by the instance, and zeros after those.

@@ -9,7 +9,7 @@ pub fn widest(instance: u32) -> u32 {
     8
 }
 
-// A width of the instance for call i, another one for the next.
+// A width of the instance for call i: 1, 8 and the greatest, over and over.
 pub fn width_at(instance: u32, i: usize) -> u32 {
     if i % 3 == 0 {
         return 1;

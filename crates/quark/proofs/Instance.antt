@@ -1,5 +1,5 @@
 -- The three instances are regular: their taps are lawful, a state is two halves, and the initial bits are b bits. That a state is also whole
--- bytes, at most 32, is apart from that: no law of the sponge needs it.
+-- bytes, at most 32, is apart from that: no law of the definition's sponge needs it.
 use mathlib.Core.Bool.{Bool, true, false, cond}
 use mathlib.Core.List.{List, [], _∷_}
 use mathlib.Core.Path.{_≡_, refl, sym, ap, ap₂, subst}

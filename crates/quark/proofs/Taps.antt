@@ -80,16 +80,17 @@ reach-less T v w h R =
 
 -- ---- the test
 
-check : (ℕ → Bool) → List ℕ → Bool
-check q [] = true
-check q (t ∷ ts) = q t && check q ts
+-- every element of a list passes a test
+unfoldable pub testAll : (ℕ → Bool) → List ℕ → Bool
+testAll q [] = true
+testAll q (t ∷ ts) = q t && testAll q ts
 
-checked : (q : ℕ → Bool) (F : ℕ → Type 0) → ((t : ℕ) → T (q t) → F t) → (ts : List ℕ) → T (check q ts) → All F ts
-unfolding check
-checked q F m [] c = tt
-checked q F m (t ∷ ts) c =
-    let c′ = both (q t) (check q ts) c in
-    (m t (c′ .0), checked q F m ts (c′ .1))
+pub all-tested : (q : ℕ → Bool) (F : ℕ → Type 0) → ((t : ℕ) → T (q t) → F t) → (ts : List ℕ) → T (testAll q ts) → All F ts
+unfolding testAll
+all-tested q F m [] c = tt
+all-tested q F m (t ∷ ts) c =
+    let c′ = both (q t) (testAll q ts) c in
+    (m t (c′ .0), all-tested q F m ts (c′ .1))
 
 above : ℕ → Bool
 above t = ltb 0 t
@@ -104,15 +105,15 @@ tests A w =
     ∷ eqb (length (A .gTaps)) 13
     ∷ eqb (getD (A .fTaps) 0 0) 0
     ∷ eqb (getD (A .gTaps) 0 0) 0
-    ∷ check above (drop 1 (A .fTaps))
-    ∷ check above (drop 1 (A .gTaps))
-    ∷ check above (xTaps A)
-    ∷ check above (yTaps A)
+    ∷ testAll above (drop 1 (A .fTaps))
+    ∷ testAll above (drop 1 (A .gTaps))
+    ∷ testAll above (xTaps A)
+    ∷ testAll above (yTaps A)
     ∷ above (A .half)
-    ∷ check (within A w) (A .fTaps)
-    ∷ check (within A w) (A .gTaps)
-    ∷ check (within A w) (xTaps A)
-    ∷ check (within A w) (yTaps A)
+    ∷ testAll (within A w) (A .fTaps)
+    ∷ testAll (within A w) (A .gTaps)
+    ∷ testAll (within A w) (xTaps A)
+    ∷ testAll (within A w) (yTaps A)
     ∷ []
 
 tested : (A : Taps) (w : ℕ) → T (every (tests A w)) → Lawful A × Reach A w
@@ -126,30 +127,30 @@ tested A w t =
         g-count = eqb→eq (length (A .gTaps)) 13 (c .1 .0);
         f-first = eqb→eq (getD (A .fTaps) 0 0) 0 (c .1 .1 .0);
         g-first = eqb→eq (getD (A .gTaps) 0 0) 0 (c .1 .1 .1 .0);
-        f-others = checked above (λ s. 0 < s) up (drop 1 (A .fTaps)) (c .1 .1 .1 .1 .0);
-        g-others = checked above (λ s. 0 < s) up (drop 1 (A .gTaps)) (c .1 .1 .1 .1 .1 .0);
-        x-above = checked above (λ s. 0 < s) up (xTaps A) (c .1 .1 .1 .1 .1 .1 .0);
-        y-above = checked above (λ s. 0 < s) up (yTaps A) (c .1 .1 .1 .1 .1 .1 .1 .0);
+        f-others = all-tested above (λ s. 0 < s) up (drop 1 (A .fTaps)) (c .1 .1 .1 .1 .0);
+        g-others = all-tested above (λ s. 0 < s) up (drop 1 (A .gTaps)) (c .1 .1 .1 .1 .1 .0);
+        x-above = all-tested above (λ s. 0 < s) up (xTaps A) (c .1 .1 .1 .1 .1 .1 .0);
+        y-above = all-tested above (λ s. 0 < s) up (yTaps A) (c .1 .1 .1 .1 .1 .1 .1 .0);
         some-half = up (A .half) (c .1 .1 .1 .1 .1 .1 .1 .1 .0);
       },
       record {
-        f-within = checked (within A w) (λ s. s + w ≤ A .half) fits (A .fTaps) (c .1 .1 .1 .1 .1 .1 .1 .1 .1 .0);
-        g-within = checked (within A w) (λ s. s + w ≤ A .half) fits (A .gTaps) (c .1 .1 .1 .1 .1 .1 .1 .1 .1 .1 .0);
-        x-within = checked (within A w) (λ s. s + w ≤ A .half) fits (xTaps A) (c .1 .1 .1 .1 .1 .1 .1 .1 .1 .1 .1 .0);
-        y-within = checked (within A w) (λ s. s + w ≤ A .half) fits (yTaps A) (c .1 .1 .1 .1 .1 .1 .1 .1 .1 .1 .1 .1 .0);
+        f-within = all-tested (within A w) (λ s. s + w ≤ A .half) fits (A .fTaps) (c .1 .1 .1 .1 .1 .1 .1 .1 .1 .0);
+        g-within = all-tested (within A w) (λ s. s + w ≤ A .half) fits (A .gTaps) (c .1 .1 .1 .1 .1 .1 .1 .1 .1 .1 .0);
+        x-within = all-tested (within A w) (λ s. s + w ≤ A .half) fits (xTaps A) (c .1 .1 .1 .1 .1 .1 .1 .1 .1 .1 .1 .0);
+        y-within = all-tested (within A w) (λ s. s + w ≤ A .half) fits (yTaps A) (c .1 .1 .1 .1 .1 .1 .1 .1 .1 .1 .1 .1 .0);
       },
     )
 
 -- ---- the three instances, each at the greatest width that document 01 allows it
 
 pub lawful-U : Lawful (U .taps) × Reach (U .taps) 8
-unfolding U tests check above within
+unfolding U tests testAll above within
 lawful-U = tested (U .taps) 8 tt
 
 pub lawful-D : Lawful (D .taps) × Reach (D .taps) 8
-unfolding D tests check above within
+unfolding D tests testAll above within
 lawful-D = tested (D .taps) 8 tt
 
 pub lawful-S : Lawful (S .taps) × Reach (S .taps) 16
-unfolding S tests check above within
+unfolding S tests testAll above within
 lawful-S = tested (S .taps) 16 tt

@@ -1,4 +1,4 @@
--- States by what they hold: a state with b bits is known from what it holds and back, and taking bits keeps it so.
+-- States by what they hold: a state with b bits is determined by what it holds, and taking bits keeps it so.
 use mathlib.Core.Bool.{true}
 use mathlib.Core.List.{List}
 use mathlib.Core.Path.{_≡_, refl, sym, ap, _∙_, subst}
@@ -27,10 +27,10 @@ use Rattle.sponge.proofs.StateBytes.{Bytes, bits-content, zero-past, by
 
 permute-number : (i w size : ℕ) → isInstance i ≡ true → isWidth i w ≡ true → size ≡ stateBytes i → permuteNumber i w size ≡ 0
 unfolding permuteNumber firstLine line1 line4 line5
-permute-number i w size known wide e = simp (known, wide, eq-eqb _ _ e)
+permute-number i w size is-instance wide e = simp (is-instance, wide, eq-eqb _ _ e)
 
-pub permuted : (i w : ℕ) (l : List ℕ) → isInstance i ≡ true → isWidth i w ≡ true → length l ≡ stateBytes i → overwritten P i w l ≡ onBytes P i l
-permuted i w l known wide e = sym (accepted-bytes P i w 0 l (sym (permute-number i w (length l) known wide e)) refl)
+pub permute-accepted : (i w : ℕ) (l : List ℕ) → isInstance i ≡ true → isWidth i w ≡ true → length l ≡ stateBytes i → overwritten P i w l ≡ onBytes P i l
+permute-accepted i w l is-instance wide e = sym (accepted-bytes P i w 0 l (sym (permute-number i w (length l) is-instance wide e)) refl)
 
 -- ---- states that differ in some fields; no other law names all fields
 
@@ -74,8 +74,8 @@ module _ (i p : ℕ) (h : Content) (wide : Wide (instanceOf i .b) (h .sponge .bi
   -- P can run on it
   pub ready-content : (w : ℕ) → isInstance i ≡ true → isWidth i w ≡ true → Ready t w
   unfolding stateWith
-  ready-content w known width =
-      subst (λ (x : State). Ready x w) (sym e) (record { known = known; width = width; zero-past = zero-past i (h .sponge .bits) wide })
+  ready-content w is-instance width =
+      subst (λ (x : State). Ready x w) (sym e) (record { is-instance = is-instance; width = width; zero-past = zero-past i (h .sponge .bits) wide })
 
 -- ---- a bit is taken
 
@@ -91,20 +91,20 @@ module _ (s : State) (x : ℕ) where
   counted = record { total = s .total + 1; sponge = added }
 
   -- the total reaches a multiple of r, and P runs
-  pub bit-fills : (t : State) → t ≡ stateWith (s .instance) (s .phase) counted
+  pub take-bit-runs : (t : State) → t ≡ stateWith (s .instance) (s .phase) counted
       → (s .total + 1) % instanceOf (s .instance) .r ≡ 0
       → withSponge t (runP (instanceOf (t .instance)) (contentOf t .sponge)) ≡ stateWith (s .instance) (s .phase) (takeBit (instanceOf (s .instance)) (contentOf s) x)
   unfolding takeBit contentOf withSponge
-  bit-fills t e z =
+  take-bit-runs t e z =
       of-content (s .instance) (s .phase) counted wide-next t e (λ i p h. stateWith i p (holding h (runP (instanceOf i) (h .sponge))))
       ∙ rw (eq-eqb _ _ z)
 
   -- it does not
-  pub bit-leaves : ((s .total + 1) % instanceOf (s .instance) .r ≡ 0 → ⊥)
+  pub take-bit-waits : ((s .total + 1) % instanceOf (s .instance) .r ≡ 0 → ⊥)
       → stateWith (s .instance) (s .phase) counted
       ≡ stateWith (s .instance) (s .phase) (takeBit (instanceOf (s .instance)) (contentOf s) x)
   unfolding takeBit contentOf
-  bit-leaves z = rw (ne-eqb _ _ z)
+  take-bit-waits z = rw (ne-eqb _ _ z)
 
 -- ---- the first k bits of some bytes are taken
 
@@ -134,7 +134,7 @@ module _ (s : State) (bytes : List ℕ) (k : ℕ) where
         (runs-take-bits (instanceOf (s .instance)) (regular (s .instance)) (contentOf s) (bitsOf k bytes) h)
 
     pub ready-after-bits : (w : ℕ) → Ready s w → Ready t w
-    ready-after-bits w r = ready-content (s .instance) (s .phase) afterBits wide-after-bits t e w (r .known) (r .width)
+    ready-after-bits w r = ready-content (s .instance) (s .phase) afterBits wide-after-bits t e w (r .is-instance) (r .width)
 
     -- and one bit more
     pub next-bit : stateWith (t .instance) (t .phase) (takeBit (instanceOf (t .instance)) (contentOf t) (bitAt bytes k))

@@ -57,9 +57,9 @@ content-open i m e =
 
 -- ---- it is sound
 
-phase-known : (c : Bool) → (eqb (cond c closedPhase absorbingPhase) absorbingPhase || eqb (cond c closedPhase absorbingPhase) closedPhase) ≡ true
-phase-known true = refl
-phase-known false = refl
+phase-allowed : (c : Bool) → (eqb (cond c closedPhase absorbingPhase) absorbingPhase || eqb (cond c closedPhase absorbingPhase) closedPhase) ≡ true
+phase-allowed true = refl
+phase-allowed false = refl
 
 sound-runs : (i : ℕ) (m : List ℕ) (c : Bool)
     → cond c (closed (instanceOf i) m) (absorbing (instanceOf i) m) .runs ≡ soundRuns (instanceOf i) (cond c closedPhase absorbingPhase) (length m)
@@ -70,7 +70,7 @@ sound-runs i m false = runs-absorbing (instanceOf i) m
 pub sound-message : (i : ℕ) (m : Message) → length (m .bits) ≤ limit → sound (stateOf i m) ≡ true
 unfolding stateOf phaseOf spongeOf
 sound-message i m h =
-    sound-state i (phaseOf m) (messageContent i m) (wide-sponge i m) h (sound-runs i (m .bits) (m .closed)) (phase-known (m .closed))
+    sound-state i (phaseOf m) (messageContent i m) (wide-sponge i m) h (sound-runs i (m .bits) (m .closed)) (phase-allowed (m .closed))
 
 -- ---- a fresh state is that of the empty message
 
@@ -86,7 +86,7 @@ fresh-empty i =
 
 pub init-empty : (i : ℕ) → isInstance i ≡ true → initResult i .state ≡ stateOf i empty
 unfolding initResult resultBy initNumber firstLine line1
-init-empty i known = rw known (fresh-empty i)
+init-empty i is-instance = rw is-instance (fresh-empty i)
 
 -- ---- messages that lists have: within the limit, and of bits
 
@@ -142,12 +142,12 @@ unfolding after stateNumber absorbResult finishResult resultBy
 refused-keeps s (piece bytes count width) refused = sym (refused-left _ s _ refused)
 refused-keeps s (finish width buffer) refused = sym (refused-left _ s _ refused)
 
-module _ (i : ℕ) (known : isInstance i ≡ true) (m : Message) (h : Admissible m) where
-  -- the state is of a known instance and sound, and its phase and total are the message's
+module _ (i : ℕ) (is-instance : isInstance i ≡ true) (m : Message) (h : Admissible m) where
+  -- the state is of an instance and sound, and its phase and total are the message's
   pub same-number : (call : Call) → stateNumber (stateOf i m) call ≡ messageNumber i m call
   unfolding stateNumber messageNumber absorbNumber finishNumber firstLine line1 line2 line3 stateOf stateWith phaseOf
-  same-number (piece bytes count width) = rw (known, sound-message i m (h .within), closed-phase (m .closed))
-  same-number (finish width buffer) = rw (known, sound-message i m (h .within), closed-phase (m .closed), never-line-8 i (length (m .bits)))
+  same-number (piece bytes count width) = rw (is-instance, sound-message i m (h .within), closed-phase (m .closed))
+  same-number (finish width buffer) = rw (is-instance, sound-message i m (h .within), closed-phase (m .closed), never-line-8 i (length (m .bits)))
 
   -- an accepted call leaves the state of the grown message
   accepted-follows : (call : Call) → messageNumber i m call ≡ 0 → after (stateOf i m) call ≡ stateOf i (grown m call)

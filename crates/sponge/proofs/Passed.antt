@@ -28,7 +28,7 @@ state-passed s w one two three four =
     let state = absorbing s (not-false (sound s) two) three in
     record {
       state = state;
-      ready = record { known = not-false (isInstance (s .instance)) one; width = not-false (isWidth (s .instance) w) four; zero-past = state .zeros };
+      ready = record { is-instance = not-false (isInstance (s .instance)) one; width = not-false (isWidth (s .instance) w) four; zero-past = state .zeros };
     }
 
 pub record AbsorbPassed (s : State) (w bytes count : ℕ) : Type 0 where
@@ -64,7 +64,7 @@ finish-passed s w buffer e =
 -- ---- the whole digest
 
 pub record DigestPassed (i w bytes count buffer : ℕ) : Type 0 where
-  pub known : isInstance i ≡ true
+  pub is-instance : isInstance i ≡ true
   pub width : isWidth i w ≡ true
   pub fits : buffer ≡ stateBytes i
   pub within : count ≤ 8 * bytes
@@ -76,7 +76,7 @@ digest-passed i w bytes count buffer e =
     let none = none-holds _ refl e in
     let seven : line7 0 count ≡ false = search none in
     record {
-      known = not-false (isInstance i) (search none);
+      is-instance = not-false (isInstance i) (search none);
       width = not-false (isWidth i w) (search none);
       fits = right-length buffer (stateBytes i) (search none);
       within = ltb-false (8 * bytes) count (search none);

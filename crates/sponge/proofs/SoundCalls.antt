@@ -22,7 +22,7 @@ use Rattle.sponge.proofs.Messages.{sound-message, init-empty}
 use Rattle.sponge.proofs.Passed.{absorb-passed, finish-passed}
 
 pub init-sound : (i : ℕ) → isInstance i ≡ true → sound (initResult i .state) ≡ true
-init-sound i known = ap sound (init-empty i known) ∙ sound-message i empty (omega arith)
+init-sound i is-instance = ap sound (init-empty i is-instance) ∙ sound-message i empty (omega arith)
 
 pub absorb-sound : (s : State) (w : ℕ) (bytes : List ℕ) (count : ℕ) → absorbNumber s w (length bytes) count ≡ 0
     → sound (absorbResult s w bytes count .state) ≡ true

@@ -97,16 +97,16 @@ module _ (s : State) where
 module _ (s : State) (d buffer : List ℕ) (t : State) (k : ℕ) (g : BlocksOut s d buffer t k) where
   pub blocks-ready : (w : ℕ) → Ready s w → Ready t w
   unfolding withSponge
-  blocks-ready w r = ready-content (s .instance) (s .phase) (held s k) (wide-held s k) t (g .state-is) w (r .known) (r .width)
+  blocks-ready w r = ready-content (s .instance) (s .phase) (held s k) (wide-held s k) t (g .state-is) w (r .is-instance) (r .width)
 
   pub blocks-runs : t .runs ≡ s .runs + k
   unfolding withSponge stateWith contentOf
   blocks-runs = ap (λ (y : State). y .runs) (g .state-is) ∙ runs-squeezed (instanceOf (s .instance)) k (contentOf s .sponge)
 
   -- all of them: the buffer is full
-  pub blocks-all : length d ≡ k * (instanceOf (s .instance) .r / 8)
+  pub blocks-given : length d ≡ k * (instanceOf (s .instance) .r / 8)
       → buffer ≡ bytesOf (k * (instanceOf (s .instance) .r / 8)) (output (instanceOf (s .instance)) k (runP (instanceOf (s .instance)) (contentOf s .sponge)))
-  blocks-all n =
+  blocks-given n =
       let size = k * (instanceOf (s .instance) .r / 8) in
       let out = output (instanceOf (s .instance)) k (runP (instanceOf (s .instance)) (contentOf s .sponge)) in
       let full : length d ≤ size = omega arith in

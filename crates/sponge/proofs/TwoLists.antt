@@ -20,21 +20,21 @@ use Rattle.sponge.proofs.Messages.{stateOf, wide-sponge, sound-message,
 
 -- ---- one list
 
-module _ (i : ℕ) (known : isInstance i ≡ true) where
+module _ (i : ℕ) (is-instance : isInstance i ≡ true) where
   run-message : (m : Message) (calls : List Call) → Admissible m
       → (runFrom (stateOf i m) calls ≡ stateOf i (extendedBy i m calls)) × Admissible (extendedBy i m calls)
   unfolding runFrom extendedBy
   run-message m [] h = (refl, h)
   run-message m (call ∷ calls) h =
-      let rest = run-message (extended i m call) calls (admissible-after i known m h call) in
-      (ap (λ (s : State). runFrom s calls) (after-call i known m h call) ∙ rest .0, rest .1)
+      let rest = run-message (extended i m call) calls (admissible-after i is-instance m h call) in
+      (ap (λ (s : State). runFrom s calls) (after-call i is-instance m h call) ∙ rest .0, rest .1)
 
   module _ (calls : List Call) where
     run-state : (run i calls ≡ stateOf i (messageOf i calls)) × Admissible (messageOf i calls)
     unfolding run messageOf
     run-state =
         let r = run-message empty calls admissible-empty in
-        (ap (λ (s : State). runFrom s calls) (init-empty i known) ∙ r .0, r .1)
+        (ap (λ (s : State). runFrom s calls) (init-empty i is-instance) ∙ r .0, r .1)
 
     follows : Follows i (messageOf i calls) (run i calls)
     unfolding stateOf stateWith
@@ -51,7 +51,7 @@ module _ (i : ℕ) (known : isInstance i ≡ true) where
         })
 
     answers : (call : Call) → stateNumber (run i calls) call ≡ messageNumber i (messageOf i calls) call
-    answers call = ap (λ (s : State). stateNumber s call) (run-state .0) ∙ same-number i known (messageOf i calls) (run-state .1) call
+    answers call = ap (λ (s : State). stateNumber s call) (run-state .0) ∙ same-number i is-instance (messageOf i calls) (run-state .1) call
 
     -- a call that is refused changes nothing, neither the state nor the message
     pub refused-changes-nothing : (call : Call) → (stateNumber (run i calls) call ≡ 0 → ⊥)
@@ -78,8 +78,8 @@ module _ (i : ℕ) (calls calls′ : List Call) (both : Comparable i calls calls
   messages-alike : ListsCloseAlike i calls calls′ ↔ CloseAlike (instanceOf i) m m′
   unfolding ListsCloseAlike
   messages-alike =
-      let left = closed-bits i (both .known) calls (both .closes) in
-      let right = closed-bits i (both .known) calls′ (both .closes′) in
+      let left = closed-bits i (both .is-instance) calls (both .closes) in
+      let right = closed-bits i (both .is-instance) calls′ (both .closes′) in
       (λ p. sym left ∙ p ∙ right, λ p. left ∙ p ∙ sym right)
 
   two : ListsCloseAlike i calls calls′ ↔ (m ≡ m′) ⊎ Meet (instanceOf i) m m′
@@ -90,8 +90,8 @@ module _ (i : ℕ) (calls calls′ : List Call) (both : Comparable i calls calls
   apart : (k : ℕ) → OnlyDiffering (instanceOf i) (pad (instanceOf i) m) (pad (instanceOf i) m′) (blockCount (instanceOf i) m) k
       → ¬ ListsCloseAlike i calls calls′
   apart k only p =
-      one-block-apart (instanceOf i) (regular i) m m′ (both .equal-counts) (run-state i (both .known) calls .1 .of-bits)
-      (run-state i (both .known) calls′ .1 .of-bits) k only (messages-alike .0 p)
+      one-block-apart (instanceOf i) (regular i) m m′ (both .equal-counts) (run-state i (both .is-instance) calls .1 .of-bits)
+      (run-state i (both .is-instance) calls′ .1 .of-bits) k only (messages-alike .0 p)
 
 -- ---- the theorem
 

@@ -36,8 +36,8 @@ opened m = record { bits = m; closed = false }
 module _ (i : ℕ) (f : State) (ef : f ≡ fresh i) where
   pub fresh-ready : (w : ℕ) → isInstance i ≡ true → isWidth i w ≡ true → Ready f w
   unfolding stateOf
-  fresh-ready w known width =
-      ready-content i (phaseOf empty) (messageContent i empty) (wide-sponge i empty) f (ef ∙ fresh-empty i) w known width
+  fresh-ready w is-instance width =
+      ready-content i (phaseOf empty) (messageContent i empty) (wide-sponge i empty) f (ef ∙ fresh-empty i) w is-instance width
 
   pub fresh-total : f .total ≡ 0
   unfolding fresh stateWith
@@ -87,15 +87,15 @@ module _ (i w : ℕ) (bytes : List ℕ) (count : ℕ) (buffer : List ℕ) (none 
   pub digest-absorb : absorbNumber (initResult i .state) w (length bytes) count ≡ 0
   unfolding stateNumber
   digest-absorb =
-      ap (λ (s : State). stateNumber s (piece bytes count w)) (init-empty i (p .known))
-      ∙ same-number i (p .known) empty admissible-empty (piece bytes count w)
+      ap (λ (s : State). stateNumber s (piece bytes count w)) (init-empty i (p .is-instance))
+      ∙ same-number i (p .is-instance) empty admissible-empty (piece bytes count w)
       ∙ piece-accepted
 
   digest-state : absorbResult (initResult i .state) w bytes count .state ≡ stateOf i (opened m)
   unfolding after grown
   digest-state =
-      ap (λ (s : State). after s (piece bytes count w)) (init-empty i (p .known))
-      ∙ after-call i (p .known) empty admissible-empty (piece bytes count w)
+      ap (λ (s : State). after s (piece bytes count w)) (init-empty i (p .is-instance))
+      ∙ after-call i (p .is-instance) empty admissible-empty (piece bytes count w)
       ∙ ap (stateOf i) (accepted-grows i empty (piece bytes count w) piece-accepted)
 
   -- `finish` accepts the state that `absorb` hands back
@@ -103,7 +103,7 @@ module _ (i w : ℕ) (bytes : List ℕ) (count : ℕ) (buffer : List ℕ) (none 
   unfolding stateNumber
   digest-finish =
       ap (λ (s : State). stateNumber s (finish w (length buffer))) digest-state
-      ∙ same-number i (p .known) (opened m) admissible-m (finish w (length buffer))
+      ∙ same-number i (p .is-instance) (opened m) admissible-m (finish w (length buffer))
       ∙ finish-accepted
 
   -- and the buffer is the same

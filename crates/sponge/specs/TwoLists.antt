@@ -50,7 +50,7 @@ bitsIn i calls = messageOf i calls .bits
 
 -- two lists of instance 1, 2 or 3 that both end closed, with messages that pad to equally many blocks
 pub record Comparable (i : ℕ) (calls calls′ : List Call) : Type 0 where
-  pub known : isInstance i ≡ true
+  pub is-instance : isInstance i ≡ true
   pub closes : messageOf i calls .closed ≡ true
   pub closes′ : messageOf i calls′ .closed ≡ true
   pub equal-counts : blockCount (instanceOf i) (bitsIn i calls) ≡ blockCount (instanceOf i) (bitsIn i calls′)

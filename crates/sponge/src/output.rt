@@ -32,8 +32,9 @@ fn give(state: State, buffer: &mut [u8], at: usize)
     ensures { λ _. ⌜ now (buffer .exit)
         ≡ paste (now (buffer .entry)) at (lastBytes (state .instance) (state .bits)) (instanceOf (state .instance) .r / 8) ⌝ }
 {
+    let size = rate::block_bytes(state.instance);
     let from = rate::last_block(state.instance);
-    let end = from + rate::block_bytes(state.instance);
+    let end = from + size;
     let bits = state.bits;
     put(buffer, at, &bits[from..end]);
 }

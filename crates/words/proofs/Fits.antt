@@ -18,7 +18,7 @@ use Rattle.words.proofs.Widths.{width-fits, some-width, several}
 
 -- what a call that fits has
 pub record Fits (i w n : ℕ) (s : RegisterWords) : Type 0 where
-  pub known : isInstance i ≡ true
+  pub is-instance : isInstance i ≡ true
   pub width : isWidth i w ≡ true
   pub more : w ≡ 1 → ⊥
   pub whole : n % w ≡ 0
@@ -41,7 +41,7 @@ tested-fits i w n s e =
     let one = and-eq-true-iff width more .0 (two .0) in
     let first = and-eq-true-iff (isInstance i) (isWidth i w) .0 (one .0) in
     record {
-      known = first .0;
+      is-instance = first .0;
       width = first .1;
       more = eqb-false w 1 (not-true (eqb w 1) (one .1));
       whole = eqb-true (n % w) 0 (two .1);
@@ -57,7 +57,7 @@ unfolding fits
 fits-tested i w n s f =
     let bound = 2 ^ instanceOf i .taps .half in
     simp (
-      f .known,
+      f .is-instance,
       f .width,
       ne-eqb w 1 (f .more),
       eq-eqb (n % w) 0 (f .whole),

@@ -1,6 +1,6 @@
 -- The low taps of the instances: which taps reach bits that are to be found when a group of w steps is undone. Both facts are tests that
 -- are computed.
-use mathlib.Core.Bool.{Bool, true, _&&_}
+use mathlib.Core.Bool.{Bool}
 use mathlib.Core.List.{List, [], _∷_}
 use mathlib.Core.Path.{_≡_, refl}
 use Prim.Native.Nat.{ℕ, _+_, _≤_}
@@ -8,8 +8,8 @@ use lib.Dec.{ltb, ltb→lt, leb, leb→le}
 use lib.ListN.{getD, drop}
 use Rattle.quark.specs.Feedback.{Taps, exchange}
 use Rattle.quark.specs.Instance.{U, D, S}
-use Rattle.quark.proofs.Taps.{All}
-use Rattle.quark.proofs.Tests.{both, every, each}
+use Rattle.quark.proofs.Taps.{All, testAll, all-tested}
+use Rattle.quark.proofs.Tests.{every, each}
 use Rattle.words.specs.declared.back.LowTaps.{LowTaps}
 use Rattle.words.specs.leaf.Solving.{Solvable}
 use lib.Dec as dec
@@ -39,23 +39,12 @@ pub record LowTapsOf (T : Taps) (low : LowTaps) (w : ℕ) : Type 0 where
   pub xHigh : w ≤ T .xHigh
   pub yHigh : w ≤ T .yHigh
 
-above : ℕ → List ℕ → Bool
-above w [] = true
-above w (t ∷ ts) = leb w t && above w ts
-
-all-above : (w : ℕ) (ts : List ℕ) → dec.T (above w ts) → All (λ t. w ≤ t) ts
-unfolding above
-all-above w [] c = tt
-all-above w (t ∷ ts) c =
-    let c′ = both (leb w t) (above w ts) c in
-    (leb→le w t (c′ .0), all-above w ts (c′ .1))
-
 tests : Taps → ℕ → List Bool
 tests T w =
-    above w (drop 1 (T .fTaps))
-    ∷ above w (drop 2 (exchange (T .gTaps)))
-    ∷ above w (drop 2 (T .hX))
-    ∷ above w (drop 1 (T .hY))
+    testAll (leb w) (drop 1 (T .fTaps))
+    ∷ testAll (leb w) (drop 2 (exchange (T .gTaps)))
+    ∷ testAll (leb w) (drop 2 (T .hX))
+    ∷ testAll (leb w) (drop 1 (T .hY))
     ∷ leb w (T .xLow)
     ∷ leb w (T .xMid)
     ∷ leb w (T .xHigh)
@@ -67,15 +56,16 @@ tested : (T : Taps) (low : LowTaps) (w : ℕ) → getD (exchange (T .gTaps)) 1 0
 unfolding tests
 tested T low w eg ex ey eh t =
     let c = each (tests T w) t in
+    let above : (ts : List ℕ) → dec.T (testAll (leb w) ts) → All (λ t. w ≤ t) ts = all-tested (leb w) (λ t. w ≤ t) (leb→le w) in
     record {
       gLow = eg;
       hX = ex;
       hY = ey;
       yLow = eh;
-      fOthers = all-above w (drop 1 (T .fTaps)) (c .0);
-      gOthers = all-above w (drop 2 (exchange (T .gTaps))) (c .1 .0);
-      hXOthers = all-above w (drop 2 (T .hX)) (c .1 .1 .0);
-      hYOthers = all-above w (drop 1 (T .hY)) (c .1 .1 .1 .0);
+      fOthers = above (drop 1 (T .fTaps)) (c .0);
+      gOthers = above (drop 2 (exchange (T .gTaps))) (c .1 .0);
+      hXOthers = above (drop 2 (T .hX)) (c .1 .1 .0);
+      hYOthers = above (drop 1 (T .hY)) (c .1 .1 .1 .0);
       xLow = leb→le w (T .xLow) (c .1 .1 .1 .1 .0);
       xMid = leb→le w (T .xMid) (c .1 .1 .1 .1 .1 .0);
       xHigh = leb→le w (T .xHigh) (c .1 .1 .1 .1 .1 .1 .0);
@@ -83,19 +73,19 @@ tested T low w eg ex ey eh t =
     }
 
 pub low-taps-U : LowTapsOf (U .taps) low-U 8
-unfolding U exchange tests above
+unfolding U exchange tests testAll
 low-taps-U = tested (U .taps) low-U 8 refl refl refl refl tt
 
 pub low-taps-D : LowTapsOf (D .taps) low-D 8
-unfolding D exchange tests above
+unfolding D exchange tests testAll
 low-taps-D = tested (D .taps) low-D 8 refl refl refl refl tt
 
 pub low-taps-S-8 : LowTapsOf (S .taps) low-S 8
-unfolding S exchange tests above
+unfolding S exchange tests testAll
 low-taps-S-8 = tested (S .taps) low-S 8 refl refl refl refl tt
 
 pub low-taps-S-16 : LowTapsOf (S .taps) low-S 16
-unfolding S exchange tests above
+unfolding S exchange tests testAll
 low-taps-S-16 = tested (S .taps) low-S 16 refl refl refl refl tt
 
 -- ---- the equations can be solved

@@ -47,7 +47,7 @@ under-mask m a b h e = read a ∙ ap (λ (x : ℕ). bitAnd x (m % 2 ^ 61)) e ∙
     read : (n : ℕ) → bitAnd n m ≡ bitAnd (n % 2 ^ 61) (m % 2 ^ 61)
     read n = sym (mod-eq-of-lt (lt-of-le-of-lt (and-le-r n m) h)) ∙ and-mod n m 61
 
--- the tap 0 apart whole-word the others
+-- the tap 0 apart from the others
 tap-apart : (n m k : ℕ) → 0 < k → ones (bitAnd n (m * 2 ^ k + 1)) ≡ ones (bitAnd (n / 2 ^ k) m) + ones (n % 2 ^ k % 2)
 tap-apart n m k h =
     ap (λ (x : ℕ). ones (bitAnd x (m * 2 ^ k + 1))) (sym (split n k))
@@ -62,7 +62,7 @@ pub moved-zeros : (w n : ℕ) {v : ℕ} → v ≡ n * 2 ^ w + 0 → v % 2 ^ w �
 moved-zeros w n e = ap (λ (x : ℕ). x % 2 ^ w) e ∙ low n w (pow-pos w)
 
 module _ (n mask first : ℕ) (narrow : OneWord mask first) (zeros : n % 2 ^ 8 ≡ 0) where
-  -- the mask whole-word `first` on
+  -- the mask from `first` on
   abbrev taps : ℕ
   taps = mask / 2 ^ first
 
@@ -84,7 +84,7 @@ module _ (n mask first : ℕ) (narrow : OneWord mask first) (zeros : n % 2 ^ 8 �
       ∙ ap (λ (x : ℕ). wordBit x j) zeros
       ∙ ap (λ (x : ℕ). x % 2) (zero-div (2 ^ j)))
 
-  -- step k + i reads what step i reads in the word whole-word k places further on
+  -- step k + i reads what step i reads in the word from k places further on
   in-word : (k i word : ℕ) → k + i < 8 → i < 4 → word ≡ n / 2 ^ (first + k) % 2 ^ 64 → maskSum n mask (k + i) ≡ maskSum word taps i
   unfolding maskSum
   in-word k i word h g e =
@@ -135,7 +135,7 @@ module _ (n mask first : ℕ) (narrow : OneWord mask first) (zeros : n % 2 ^ 8 �
 
 -- ---- four sums with later ones above them, last step first
 
--- the bits when the steps whole-word j on are done
+-- the bits when the steps from j on are done
 abbrev pub SumsFrom : (later word mask j bits : ℕ) → Type 0
 SumsFrom later word mask j bits = bits ≡ later * 2 ^ (4 - j) + pack (maskSum word mask) 4 / 2 ^ j
 

@@ -27,7 +27,7 @@ lines-passed c = digest-passed _ _ _ _ _ (sym (c .before .digest-line .ensures) 
 ready : (c : tie.After-fresh) → Ready (c .fresh .result) (c .before .before .before .before .before .args .width)
 ready c =
     let p = lines-passed (c .before) in
-    fresh-ready _ (c .fresh .result) (c .fresh .ensures) _ (p .known) (p .width)
+    fresh-ready _ (c .fresh .result) (c .fresh .ensures) _ (p .is-instance) (p .width)
 
 returns : tie.Need-returns
 unfolding outcomeOf digestOutcome digestBytes

@@ -22,9 +22,9 @@ accept-requires c κs = tt
 returns : tie.Need-returns
 unfolding initResult initNumber firstLine line1 resultBy outcome
 returns c =
-    let known : isInstance (c .before .before .before .before .args .instance) ≡ true =
+    let is-instance : isInstance (c .before .before .before .before .args .instance) ≡ true =
     sym (c .before .before .before .is-instance .ensures) ∙ c .before .before .if1 .taken in
-    c .accept .ensures ∙ rw known (ap (λ (s : State). record { outcome = accepted tt; state = s }) (c .before .fresh .ensures))
+    c .accept .ensures ∙ rw is-instance (ap (λ (s : State). record { outcome = accepted tt; state = s }) (c .before .fresh .ensures))
 
 zeros-requires : tie.Need-zeros-requires
 zeros-requires c κs = tt

@@ -14,9 +14,9 @@ use Rattle.sponge.specs.Soundness.{allZero, contentOf, stateWith}
 abbrev pub ZeroPast : State → Type 0
 ZeroPast s = allZero (drop (instanceOf (s .instance) .b / 8) (s .bits)) ≡ true
 
--- P can run on a state: its instance is known, the step width is the instance's, and the bytes from b/8 on are zero
+-- P can run on a state: it is of an instance, the step width is that instance's, and the bytes from b/8 on are zero
 pub record Ready (s : State) (w : ℕ) : Type 0 where
-  pub known : isInstance (s .instance) ≡ true
+  pub is-instance : isInstance (s .instance) ≡ true
   pub width : isWidth (s .instance) w ≡ true
   pub zero-past : ZeroPast s
 

@@ -5,10 +5,11 @@ use Prim.Native.Nat.{ℕ, _+_, _≤_}
 use native.Mathlib.Omega.{arith}
 use lib.ListN.{length}
 use Rattle.quark.specs.Instance.{instanceOf}
+use Rattle.quark.proofs.Instance.{regular}
 use Rattle.words.specs.Words.{value}
 use Rattle.permutation.specs.leaf.Several.{written}
 use Rattle.permutation.proofs.CellWords.{length-written, ran-or-undone-words, loaded-fit}
-use Rattle.permutation.proofs.Widths.{half-fits}
+use Rattle.permutation.proofs.Widths.{word-filled}
 use Rattle.permutation.proofs.several.run_or_undo.Statement.{statement}
 use Rattle.permutation.proofs.several.run_or_undo.Tie as tie
 
@@ -19,10 +20,9 @@ half-of-requires c κs = tt
 room : (c : tie.After-half-of) → let half = c .half-of .result in
     (64 ≤ half) × (half ≤ 128) × (half + half ≤ length (c .before .args .bits .now))
 room c =
-    let f = half-fits (c .before .args .instance) in
-    let e = c .half-of .ensures .0 in
+    let e = c .half-of .ensures in
     let l = c .before .pre .0 .full in
-    (omega arith, omega arith, omega arith)
+    (omega (arith, word-filled (c .before .args .instance)), e .2, omega arith)
 
 load-requires : tie.Need-load-requires
 load-requires c κs =
@@ -72,11 +72,12 @@ returns c =
     let a = s .args in
     let h = half .half-of .result in
     let e = half .half-of .ensures .0 in
-    let f = half-fits (a .instance) in
+    let halves : instanceOf (a .instance) .b ≡ instanceOf (a .instance) .taps .half + instanceOf (a .instance) .taps .half =
+    omega (arith, regular (a .instance) .two-halves) in
     let after = stepped .run-or-undo-words in
     c .save2 .ensures
     ∙ ap (λ (t : List ℕ). written t h h (value (after .result .y))) (first one)
-    ∙ ran-or-undone-words (instanceOf (a .instance)) (a .bits .now) (f .1) (omega (arith, s .pre .0 .full)) (x .load .result) (y .load2 .result) (a .l) (a .count) (after .result) (a .inverse) h e (x .load .ensures) (y .load2 .ensures)
+    ∙ ran-or-undone-words (instanceOf (a .instance)) (a .bits .now) halves (omega (arith, s .pre .0 .full, half .half-of .ensures)) (x .load .result) (y .load2 .result) (a .l) (a .count) (after .result) (a .inverse) h e (x .load .ensures) (y .load2 .ensures)
     (after .ensures (loaded-fit (s .pre .0) (s .pre .1) (x .load .result) (y .load2 .result) h h e (x .load .ensures) (y .load2 .ensures)))
 
 pub run-or-undo-spec : {M : Type 1} → statement M

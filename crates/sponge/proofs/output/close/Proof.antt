@@ -38,7 +38,7 @@ give-blocks-requires c κs =
     let s = start .args .state in
     let e = c .before .before .add-bit .ensures in
     let count = c .before .outputs .ensures in (
-      ready-content (s .instance) closedPhase (padded s) (wide-next s 1) _ (padded-state (c .before .before)) (start .args .width) (start .pre .0 .known) (start .pre .0 .width),
+      ready-content (s .instance) closedPhase (padded s) (wide-next s 1) _ (padded-state (c .before .before)) (start .args .width) (start .pre .0 .is-instance) (start .pre .0 .width),
       start .pre .1
           ∙ sym (whole-output (s .instance))
           ∙ sym (ap₂ (λ (k i : ℕ). k * (instanceOf i .r / 8)) count (ap (λ (t : State). t .instance) e)),

@@ -14,19 +14,19 @@ use Rattle.sponge.proofs.output.give.Statement.{statement}
 use Rattle.sponge.proofs.output.give.Tie as tie
 
 -- the part ends within the 32 bytes
-within : (c : tie.After-block-bytes) → c .before .last-block .result + c .block-bytes .result ≤ 32
+within : (c : tie.After-last-block) → c .last-block .result + c .before .block-bytes .result ≤ 32
 within c =
     let i = c .before .before .before .args .state .instance in
-    omega (arith, c .before .last-block .ensures, c .block-bytes .ensures, regular i .rate-fits, in-bytes i .at-most-256)
+    omega (arith, c .last-block .ensures, c .before .block-bytes .ensures, regular i .rate-fits, in-bytes i .at-most-256)
 
 -- the part that is handed on
-part : (c : tie.After-block-bytes) → let s = c .before .before .before .args .state in
-    let from = c .before .last-block .result in
-    take (from + c .block-bytes .result - from) (drop from (s .bits)) ≡ lastBytes (s .instance) (s .bits)
+part : (c : tie.After-last-block) → let s = c .before .before .before .args .state in
+    let from = c .last-block .result in
+    take (from + c .before .block-bytes .result - from) (drop from (s .bits)) ≡ lastBytes (s .instance) (s .bits)
 part c =
     let s = c .before .before .before .args .state in
     let n : length (s .bits) ≡ 32 = search needs in
-    last-part (s .instance) (s .bits) n _ _ (c .before .last-block .ensures) (c .block-bytes .ensures)
+    last-part (s .instance) (s .bits) n _ _ (c .last-block .ensures) (c .before .block-bytes .ensures)
 
 add-end : tie.Need-add-end
 add-end c = omega (arith, within c)

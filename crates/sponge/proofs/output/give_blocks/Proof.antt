@@ -10,7 +10,7 @@ use lib.ListN.{length, getD}
 use lib.Seq.{paste}
 use Rattle.quark.specs.Instance.{instanceOf}
 use Rattle.sponge.specs.leaf.Ready.{lastBytes}
-use Rattle.sponge.proofs.Squeezing.{part-fits, BlocksOut, blocks-none, blocks-ready, blocks-runs, blocks-all, run-instance, blocks-next}
+use Rattle.sponge.proofs.Squeezing.{part-fits, BlocksOut, blocks-none, blocks-ready, blocks-runs, blocks-given, run-instance, blocks-next}
 use Rattle.sponge.proofs.output.give_blocks.Statement.{statement}
 use Rattle.sponge.proofs.output.give_blocks.Tie as tie
 
@@ -75,7 +75,7 @@ returns c =
     let start = c .before .before .before .before in
     let all : c .before .loop .block ≡ start .args .count = omega arith in
     let g = subst (λ (k : ℕ). BlocksOut (start .args .state) (now (start .args .buffer)) (c .before .loop .buffer) (c .before .loop .last) k) all (c .before .loop .inv .1) in
-    (g .state-is, blocks-all _ _ _ _ _ g (start .pre .1))
+    (g .state-is, blocks-given _ _ _ _ _ g (start .pre .1))
 
 pub give-blocks-spec : {M : Type 1} → statement M
 give-blocks-spec =

@@ -14,7 +14,7 @@ use Rattle.quark.proofs.Instance.{in-bytes}
 use Rattle.permutation.specs.Permute.{onBytes}
 use Rattle.sponge.specs.Soundness.{contentOf}
 use Rattle.sponge.proofs.StateBytes.{bytes-permuted}
-use Rattle.sponge.proofs.Contents.{permuted, with-sponge}
+use Rattle.sponge.proofs.Contents.{permute-accepted, with-sponge}
 use Rattle.sponge.proofs.pieces.run_p.Statement.{statement}
 use Rattle.sponge.proofs.pieces.run_p.Tie as tie
 
@@ -53,7 +53,7 @@ returns c =
     length-take-le (size .result) (s .bits) (front (c .before .before .before .before .before)) ∙ size .ensures in
     with-sponge s (runP (instanceOf (s .instance)) (contentOf s .sponge)) (add-one (s .runs))
     (ap (λ (l : List ℕ). l ++ drop (size .result) (s .bits))
-    (c .before .before .permute .ensures .1 ∙ permuted (s .instance) (start .args .width) (take (size .result) (s .bits)) (ready .known) (ready .width) m)
+    (c .before .before .permute .ensures .1 ∙ permute-accepted (s .instance) (start .args .width) (take (size .result) (s .bits)) (ready .is-instance) (ready .width) m)
     ∙ ap (λ (k : ℕ). onBytes P (s .instance) (take k (s .bits)) ++ drop k (s .bits)) (size .ensures)
     ∙ bytes-permuted (s .instance) (s .bits) n (ready .zero-past))
 

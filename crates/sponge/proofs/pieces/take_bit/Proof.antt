@@ -10,7 +10,7 @@ use Rattle.sponge.specs.declared.State.{State}
 use Rattle.sponge.specs.Taking.{addBit}
 use Rattle.sponge.specs.Soundness.{contentOf, stateWith}
 use Rattle.sponge.specs.leaf.Ready.{withSponge}
-use Rattle.sponge.proofs.Contents.{changed, with-changed, ready-content, counted, wide-next, bit-fills, bit-leaves}
+use Rattle.sponge.proofs.Contents.{changed, with-changed, ready-content, counted, wide-next, take-bit-runs, take-bit-waits}
 use Rattle.sponge.proofs.pieces.take_bit.Statement.{statement}
 use Rattle.sponge.proofs.pieces.take_bit.Tie as tie
 
@@ -39,7 +39,7 @@ run-p-requires c κs =
     let start = c .before .before .before .before .before in
     let s = start .args .state in
     let at = c .before .before .before .before in (
-      ready-content (s .instance) (s .phase) (counted s (start .args .bit)) (wide-next s (start .args .bit)) _ (next-state at) (start .args .width) (start .pre .0 .known) (start .pre .0 .width),
+      ready-content (s .instance) (s .phase) (counted s (start .args .bit)) (wide-next s (start .args .bit)) _ (next-state at) (start .args .width) (start .pre .0 .is-instance) (start .pre .0 .width),
       omega (
         arith,
         ap (λ (t : State). t .runs) (at .add-bit .ensures),
@@ -59,12 +59,12 @@ returns : tie.Need-returns
 returns c =
     let a = c .before .before .before .before .before .before .args in
     c .run-p .ensures
-    ∙ bit-fills (a .state) (a .bit) _ (next-state (c .before .before .before .before .before)) (sym (remainder (c .before .before)) ∙ c .before .if1 .taken)
+    ∙ take-bit-runs (a .state) (a .bit) _ (next-state (c .before .before .before .before .before)) (sym (remainder (c .before .before)) ∙ c .before .if1 .taken)
 
 returns-2 : tie.Need-returns-2
 returns-2 c =
     let a = c .before .before .before .before .before .args in
-    next-state (c .before .before .before .before) ∙ bit-leaves (a .state) (a .bit) (λ z. c .if1 .left (remainder (c .before) ∙ z))
+    next-state (c .before .before .before .before) ∙ take-bit-waits (a .state) (a .bit) (λ z. c .if1 .left (remainder (c .before) ∙ z))
 
 pub take-bit-spec : {M : Type 1} → statement M
 take-bit-spec =
