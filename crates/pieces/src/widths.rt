@@ -1,5 +1,6 @@
 // Step widths and lengths of the instances.
 ghost use Prim.Native.Nat.{_≤_};
+use permutation::lines::state_bytes;
 
 // The greatest width of the instance.
 pub fn widest(instance: u32) -> u32 {
@@ -24,11 +25,5 @@ pub fn width_at(instance: u32, i: usize) -> u32 {
 pub fn digest_bytes(instance: u32) -> usize
     ensures { λ r. ⌜ r ≤ 32 ⌝ }
 {
-    if instance == 1 {
-        return 17;
-    }
-    if instance == 2 {
-        return 22;
-    }
-    32
+    state_bytes(instance)
 }

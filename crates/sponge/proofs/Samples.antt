@@ -29,7 +29,7 @@ pub edges :
     × (soundAt 3 0 16777215 524287 255 ≡ true)
     × (soundAt 3 0 16777216 524288 255 ≡ false)
     × (soundAt 2 0 0 0 255 ≡ false)
-unfolding line6 line7 soundAt sound soundRuns allZero instanceOf U D S
+unfolding line6 line7 soundAt sound soundRuns allZero stateBytes instanceOf U D S
 edges = (refl, refl, refl, refl, refl, refl, refl, refl, refl, refl, refl, refl, refl, refl)
 
 -- a whole digest that several lines refuse answers the first of them: lines 1, 4, 5 and 6, then 4, 5 and 6, then 5 and 6, then 6 and 7, then 7

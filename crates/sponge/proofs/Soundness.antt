@@ -1,15 +1,14 @@
 -- Sound states: which states by what they hold are sound, and what a sound state that is not closed has.
 use mathlib.Core.Bool.{Bool, true, false, _&&_, _||_, true≢false, and-eq-true-iff}
 use mathlib.Core.Path.{_≡_, refl, sym, _∙_}
-use Prim.Native.Nat.{ℕ, _≤_, _/_}
+use Prim.Native.Nat.{ℕ, _≤_}
 use borrow.Author.Tests.{le-leb, leb-true, eq-eqb, eqb-true}
 use lib.Dec.{leb, eqb}
-use lib.ListN.{drop}
 use Rattle.quark.specs.Instance.{instanceOf}
 use Rattle.quark.proofs.Bits.{Wide}
 use Rattle.sponge.specs.declared.State.{State}
 use Rattle.sponge.specs.Taking.{Content}
-use Rattle.sponge.specs.Soundness.{limit, absorbingPhase, closedPhase, allZero, soundRuns, sound, stateWith}
+use Rattle.sponge.specs.Soundness.{limit, absorbingPhase, closedPhase, restZero, soundRuns, sound, stateWith}
 use Rattle.sponge.specs.leaf.Ready.{ZeroPast, RunsOfTotal}
 use Rattle.sponge.proofs.StateBytes.{zero-past}
 
@@ -31,7 +30,7 @@ unfolding sound soundRuns
 absorbing s e open′ =
     let I = instanceOf (s .instance) in
     let total = leb (s .total) limit in
-    let zeros = allZero (drop (I .b / 8) (s .bits)) in
+    let zeros = restZero s in
     let runs = eqb (s .runs) (soundRuns I (s .phase) (s .total)) in
     let phases = and-eq-true-iff (total && zeros && runs) (eqb (s .phase) absorbingPhase || eqb (s .phase) closedPhase) .0 e in
     let three = and-eq-true-iff (total && zeros) runs .0 (phases .0) in

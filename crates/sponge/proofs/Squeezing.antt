@@ -8,7 +8,7 @@ use native.Mathlib.Omega.{arith}
 use lib.ListN.{length, take, drop, length-append, length-drop, drop-of-length-le}
 use lib.Seq.{paste, take-at, drop-at, drop-drop, take-all}
 use Rattle.quark.specs.Bytes.{tabulate, bytesOf}
-use Rattle.quark.specs.Instance.{U, D, S, instanceOf}
+use Rattle.quark.specs.Instance.{U, D, S, instanceOf, stateBytes}
 use Rattle.quark.specs.Sponge.{Counted, runP, squeezed, output}
 use Rattle.quark.proofs.Bits.{Wide}
 use Rattle.quark.proofs.Bytes.{length-bytesOf, bytes-append}
@@ -36,8 +36,8 @@ pub part-fits : (k q count : ℕ) → k < count → k * q + q ≤ count * q
 part-fits k q count h = omega (arith, add-mul k 1 q, mul-le-mul-right {m = k + 1} {n = count} q (omega arith))
 
 -- n/r blocks of r/8 bytes are b/8 bytes
-pub whole-output : (i : ℕ) → instanceOf i .n / instanceOf i .r * (instanceOf i .r / 8) ≡ instanceOf i .b / 8
-unfolding U D S
+pub whole-output : (i : ℕ) → instanceOf i .n / instanceOf i .r * (instanceOf i .r / 8) ≡ stateBytes i
+unfolding U D S stateBytes
 whole-output = of-each (λ I. I .n / I .r * (I .r / 8) ≡ I .b / 8) refl refl refl
 
 -- ---- one block more, from c

@@ -192,12 +192,13 @@ module _ (i : ℕ) where
   bits-content s w = bits-of-bytes (instanceOf i .b) 32 s (in-bytes i .at-most-256) w
 
   -- the bytes after b bits are zero
-  pub zero-past : (s : List ℕ) → Wide (instanceOf i .b) s → allZero (drop (instanceOf i .b / 8) (bytesOf 32 s)) ≡ true
+  pub zero-past : (s : List ℕ) → Wide (instanceOf i .b) s → allZero (drop (stateBytes i) (bytesOf 32 s)) ≡ true
+  unfolding stateBytes
   zero-past s w =
-      all-zero (drop (instanceOf i .b / 8) (bytesOf 32 s))
-      (λ j. getD-drop (instanceOf i .b / 8) (bytesOf 32 s) j 0 ∙ past (instanceOf i .b / 8 + j) (omega arith))
+      all-zero (drop (stateBytes i) (bytesOf 32 s))
+      (λ j. getD-drop (stateBytes i) (bytesOf 32 s) j 0 ∙ past (stateBytes i + j) (omega arith))
     where
-      past : (k : ℕ) → instanceOf i .b / 8 ≤ k → getD (bytesOf 32 s) k 0 ≡ 0
+      past : (k : ℕ) → stateBytes i ≤ k → getD (bytesOf 32 s) k 0 ≡ 0
       past k h =
           elim (decLt k 32) [
             | yes g ↦ getD-bytesOf 32 s k g ∙ byte-past s k (omega (arith, w .0, in-bytes i .whole-bytes))
@@ -206,25 +207,27 @@ module _ (i : ℕ) where
 
   -- b bits in 32 bytes: b/8 bytes, then zeros
   pub bytes-wide : (s : List ℕ) → Wide (instanceOf i .b) s
-      → bytesOf 32 s ≡ bytesOf (instanceOf i .b / 8) s ++ replicate (32 - instanceOf i .b / 8) 0
+      → bytesOf 32 s ≡ bytesOf (stateBytes i) s ++ replicate (32 - stateBytes i) 0
+  unfolding stateBytes
   bytes-wide s w =
-      let k = instanceOf i .b / 8 in
+      let k = stateBytes i in
       let n : 32 ≡ k + (32 - k) = omega (arith, in-bytes i .whole-bytes, in-bytes i .at-most-256) in
       ap₂ bytesOf n (sym (append-nil s))
       ∙ bytes-append k (32 - k) s [] (w .0 ∙ in-bytes i .whole-bytes)
       ∙ ap (λ (l : List ℕ). bytesOf k s ++ l) (bytes-none (32 - k))
 
   -- b/8 bytes, and bits of the first b/8 bytes alone
-  bits-front : (l : List ℕ) → bitsOf (instanceOf i .b) (take (instanceOf i .b / 8) l) ≡ bitsOf (instanceOf i .b) l
-  unfolding bitsOf bitAt
+  bits-front : (l : List ℕ) → bitsOf (instanceOf i .b) (take (stateBytes i) l) ≡ bitsOf (instanceOf i .b) l
+  unfolding bitsOf bitAt stateBytes
   bits-front l =
-      tabulate-cong (instanceOf i .b) (bitAt (take (instanceOf i .b / 8) l)) (bitAt l)
-      (λ j h. ap (λ (x : ℕ). x / 2 ^ (7 - j % 8) % 2) (getD-take (instanceOf i .b / 8) l (j / 8) 0 (omega (arith, in-bytes i .whole-bytes))))
+      tabulate-cong (instanceOf i .b) (bitAt (take (stateBytes i) l)) (bitAt l)
+      (λ j h. ap (λ (x : ℕ). x / 2 ^ (7 - j % 8) % 2) (getD-take (stateBytes i) l (j / 8) 0 (omega (arith, in-bytes i .whole-bytes))))
 
   -- bytes that are zero from b/8 on come back from their b bits
-  pub bytes-content : (l : List ℕ) → length l ≡ 32 → Bytes l → allZero (drop (instanceOf i .b / 8) l) ≡ true → bytesOf 32 (bitsOf (instanceOf i .b) l) ≡ l
+  pub bytes-content : (l : List ℕ) → length l ≡ 32 → Bytes l → allZero (drop (stateBytes i) l) ≡ true → bytesOf 32 (bitsOf (instanceOf i .b) l) ≡ l
+  unfolding stateBytes
   bytes-content l size small z =
-      let k = instanceOf i .b / 8 in
+      let k = stateBytes i in
       let s = bitsOf (instanceOf i .b) l in
       let n : length (drop k l) ≡ 32 - k = length-drop k l ∙ ap (λ (m : ℕ). m - k) size in
       let m : length (take k l) ≡ k = length-take-le k l (omega (arith, in-bytes i .at-most-256)) in
@@ -259,12 +262,12 @@ module _ (i : ℕ) where
 
   module _ (l : List ℕ) (size : length l ≡ 32) where
     -- P on the first b/8 bytes is P on the b bits
-    pub bytes-permuted : allZero (drop (instanceOf i .b / 8) l) ≡ true
-        → onBytes P i (take (instanceOf i .b / 8) l) ++ drop (instanceOf i .b / 8) l
+    pub bytes-permuted : allZero (drop (stateBytes i) l) ≡ true
+        → onBytes P i (take (stateBytes i) l) ++ drop (stateBytes i) l
         ≡ bytesOf 32 (P (instanceOf i .taps) (bitsOf (instanceOf i .b) l))
     unfolding onBytes stateBytes
     bytes-permuted z =
-        let k = instanceOf i .b / 8 in
+        let k = stateBytes i in
         let n : length (drop k l) ≡ 32 - k = length-drop k l ∙ ap (λ (m : ℕ). m - k) size in
         ap₂ (λ (x y : List ℕ). bytesOf k (P (instanceOf i .taps) x) ++ y) (bits-front l)
         (zeros-of (drop k l) z ∙ ap (λ (m : ℕ). replicate m 0) n)
@@ -272,14 +275,15 @@ module _ (i : ℕ) where
         (P-wide (instanceOf i) (regular i) (bitsOf (instanceOf i .b) l) (wide-bitsOf (instanceOf i .b) l)))
 
     -- a bit is added to the b bits
-    pub bytes-added : Bytes l → allZero (drop (instanceOf i .b / 8) l) ≡ true → (at x : ℕ) → at < instanceOf i .b → x < 2
+    pub bytes-added : Bytes l → allZero (drop (stateBytes i) l) ≡ true → (at x : ℕ) → at < instanceOf i .b → x < 2
         → flipped l at x ≡ bytesOf 32 (set (bitsOf (instanceOf i .b) l) at ((bit (bitsOf (instanceOf i .b) l) at + x) % 2))
+    unfolding stateBytes
     bytes-added small z at x h single =
         let l′ = flipped l at x in
         let v = bitXor (getD l (at / 8) 0) (x * 2 ^ (7 - at % 8)) in
         let within : at / 8 < length l = omega (arith, in-bytes i .at-most-256) in
-        let kept : drop (instanceOf i .b / 8) l′ ≡ drop (instanceOf i .b / 8) l =
-        drop-set-lt (instanceOf i .b / 8) l (at / 8) v (omega (arith, in-bytes i .whole-bytes)) in
+        let kept : drop (stateBytes i) l′ ≡ drop (stateBytes i) l =
+        drop-set-lt (stateBytes i) l (at / 8) v (omega (arith, in-bytes i .whole-bytes)) in
         sym (bytes-content l′ (length-set l (at / 8) v ∙ size) (bytes-flipped l at x within single small) (ap allZero kept ∙ z))
         ∙ ap (bytesOf 32) (bits-flipped l at x within single (instanceOf i .b) h)
 

@@ -5,7 +5,7 @@ use Prim.Native.Nat.{ℕ, _+_, _/_}
 use lib.Dec.{leb, eqb}
 use lib.ListN.{drop, replicate}
 use Rattle.quark.specs.Bytes.{bitsOf, bytesOf}
-use Rattle.quark.specs.Instance.{Instance, instanceOf}
+use Rattle.quark.specs.Instance.{Instance, instanceOf, stateBytes}
 use Rattle.sponge.specs.declared.State.{State}
 use Rattle.sponge.specs.Taking.{Content}
 
@@ -28,10 +28,14 @@ allZero (x ∷ xs) = eqb x 0 && allZero xs
 unfoldable pub soundRuns : Instance → (phase total : ℕ) → ℕ
 soundRuns I phase total = cond (eqb phase absorbingPhase) (total / I .r) (total / I .r + I .n / I .r)
 
+-- the bytes from b/8 on are zero
+abbrev pub restZero : State → Bool
+restZero s = allZero (drop (stateBytes (s .instance)) (s .bits))
+
 -- the total is at most the limit, bytes from b/8 on are zero, and the runs are those of the total; the phase is 0 or 1
 unfoldable pub sound : State → Bool
 sound s =
-    leb (s .total) limit && allZero (drop (instanceOf (s .instance) .b / 8) (s .bits))
+    leb (s .total) limit && restZero s
     && eqb (s .runs) (soundRuns (instanceOf (s .instance)) (s .phase) (s .total))
     && (eqb (s .phase) absorbingPhase || eqb (s .phase) closedPhase)
 

@@ -8,11 +8,11 @@ use Rattle.quark.specs.Instance.{instanceOf, isInstance, isWidth}
 use Rattle.quark.specs.Sponge.{Counted}
 use Rattle.sponge.specs.declared.State.{State}
 use Rattle.sponge.specs.Taking.{holding}
-use Rattle.sponge.specs.Soundness.{allZero, contentOf, stateWith}
+use Rattle.sponge.specs.Soundness.{restZero, contentOf, stateWith}
 
 -- the bytes from b/8 on are zero
 abbrev pub ZeroPast : State → Type 0
-ZeroPast s = allZero (drop (instanceOf (s .instance) .b / 8) (s .bits)) ≡ true
+ZeroPast s = restZero s ≡ true
 
 -- P can run on a state: it is of an instance, the step width is that instance's, and the bytes from b/8 on are zero
 pub record Ready (s : State) (w : ℕ) : Type 0 where

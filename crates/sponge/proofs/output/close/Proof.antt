@@ -5,7 +5,7 @@ use native.Mathlib.Nat.{div-le-self}
 use native.Mathlib.Omega.{arith}
 use borrow.Author.Needs.{needs}
 use Rattle.quark.specs.Bytes.{bytesOf}
-use Rattle.quark.specs.Instance.{instanceOf, stateBytes}
+use Rattle.quark.specs.Instance.{instanceOf}
 use Rattle.quark.specs.Sponge.{runP, squeezed, output}
 use Rattle.quark.proofs.Instance.{regular}
 use Rattle.sponge.specs.declared.State.{State}
@@ -32,7 +32,7 @@ add-bit-requires : tie.Need-add-bit-requires
 add-bit-requires c κs = (c .before .pre .0 .zero-past, omega arith)
 
 give-blocks-requires : tie.Need-give-blocks-requires
-unfolding withSponge stateWith addBit contentOf stateBytes padded
+unfolding withSponge stateWith addBit contentOf padded
 give-blocks-requires c κs =
     let start = c .before .before .before .before in
     let s = start .args .state in
@@ -57,7 +57,7 @@ same-length : tie.Need-same-length
 same-length c = search needs
 
 returns : tie.Need-returns
-unfolding withSponge contentOf finishOutput afterPadding stateBytes padded
+unfolding withSponge contentOf finishOutput afterPadding padded
 returns c =
     let s = c .before .before .before .before .before .before .before .args .state in
     let i = s .instance in

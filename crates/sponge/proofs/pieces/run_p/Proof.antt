@@ -42,7 +42,7 @@ add-next : tie.Need-add-next
 add-next c = omega (arith, c .before .before .before .before .before .before .pre .1)
 
 returns : tie.Need-returns
-unfolding runP contentOf stateBytes
+unfolding runP contentOf
 returns c =
     let start = c .before .before .before .before .before .before in
     let s = start .args .state in

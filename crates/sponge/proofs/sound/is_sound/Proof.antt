@@ -1,6 +1,5 @@
 -- `is_sound` meets its contract: its tests are the definition's.
 use borrow.Author.Needs.{needs}
-use Rattle.quark.specs.Instance.{stateBytes}
 use Rattle.sponge.specs.Soundness.{sound}
 use Rattle.sponge.proofs.sound.is_sound.Statement.{statement}
 use Rattle.sponge.proofs.sound.is_sound.Tie as tie
@@ -9,7 +8,7 @@ cast-runs : tie.Need-cast-runs
 cast-runs c = search needs
 
 returns : tie.Need-returns
-unfolding sound stateBytes
+unfolding sound
 returns c = cc
 
 pub is-sound-spec : {M : Type 1} → statement M
