@@ -1,30 +1,13 @@
 -- `digest_line` meets its contract: the calls of `first` are the lines in checking order.
-use mathlib.Core.Bool.{not}
-use mathlib.Core.Path.{refl, ap}
-use Prim.Native.Nat.{ℕ}
-use lib.Dec.{eqb}
 use Rattle.refusals.specs.Lines.{firstLine, line5}
-use Rattle.refusals.proofs.FirstLine.{in-front}
 use Rattle.permutation.specs.Lines.{line1, line4}
 use Rattle.sponge.specs.Outcomes.{digestNumber}
 use Rattle.sponge.proofs.lines.digest_line.Statement.{statement}
 use Rattle.sponge.proofs.lines.digest_line.Tie as tie
 
--- at2 to at6 are the calls of `first` for the second to the sixth line; the call of a line's test stands right before
 returns : tie.Need-returns
 unfolding digestNumber firstLine line1 line4 line5
-returns c =
-    let at2 = c .before .before in
-    let at3 = at2 .before .before in
-    let at4 = at3 .before .before in
-    let at5 = at4 .before .before in
-    let at6 = at5 .before .before in
-    in-front 1 (c .first6 .ensures) (ap not (c .before .is-instance .ensures))
-    (in-front 4 (at2 .first5 .ensures) (ap not (at2 .before .is-width .ensures))
-    (in-front 5 (at3 .first4 .ensures) (ap (λ (n : ℕ). not (eqb (at6 .before .before .args .buffer) n)) (at3 .before .state-bytes .ensures))
-    (in-front 6 (at4 .first3 .ensures) (at4 .before .count-over .ensures)
-    (in-front 7 (at5 .first2 .ensures) (at5 .before .total-over .ensures)
-    (in-front 8 (at6 .first .ensures) (at6 .before .padding-off .ensures) refl)))))
+returns c = cc
 
 pub digest-line-spec : {M : Type 1} → statement M
 digest-line-spec =
