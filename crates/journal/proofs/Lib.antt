@@ -8,7 +8,7 @@ pub mod RecordParts
 pub mod RecordByRecord
 pub mod Accepted
 pub mod VerifyLoop
-pub mod Input
+pub mod KeyAndJournal
 pub mod Fits
 pub mod SealedInTurn
 pub mod Samples

@@ -1,7 +1,7 @@
 -- Lines in checking order: a chain of calls of `first` is their list, and what follows where none of them holds.
-use mathlib.Core.Bool.{Bool, true, false, cond, not, _||_, true≢false, false≢true, and-eq-true-iff}
-use mathlib.Core.List.{List, [], _∷_, _++_}
-use mathlib.Core.Path.{_≡_, refl, ap, _∙_}
+use mathlib.Core.Bool.{Bool, true, false, cond, _||_, true≢false, false≢true, and-eq-true-iff}
+use mathlib.Core.List.{List, [], _∷_, _++_, append-assoc}
+use mathlib.Core.Path.{_≡_, refl, sym, ap, _∙_}
 use Prim.Native.Nat.{ℕ, zero, suc, _<_}
 use native.Mathlib.Nat.{suc-ne-zero}
 use native.Mathlib.Omega.{arith}
@@ -71,19 +71,27 @@ both-none ((true, zero) ∷ lines) more each none = absurd (false≢true each)
 both-none ((true, suc n) ∷ lines) more each none = absurd (suc-ne-zero n none)
 both-none ((false, n) ∷ lines) more each none = both-none lines more (and-eq-true-iff (ltb 0 n) (numbered lines) .0 each .1) none
 
+-- ---- a chain between two others, by the number that it gives with those in front: that number decides, or the lines after do
+
+module _ (front lines more : List (Bool × ℕ)) (number : ℕ) (e : number ≡ firstLine (front ++ lines)) where
+  pub decided-before : (number ≡ 0 → ⊥) → number ≡ firstLine (front ++ (lines ++ more))
+  decided-before some = e ∙ sym (holds-in-front (front ++ lines) more (λ z. some (e ∙ z))) ∙ ap firstLine (append-assoc front lines more)
+
+  pub decided-after : numbered front ≡ true → numbered lines ≡ true → number ≡ 0 → firstLine (front ++ (lines ++ more)) ≡ firstLine more
+  decided-after each-front each none =
+      let parts = both-none front lines each-front (sym e ∙ none) in
+      none-in-front front (lines ++ more) each-front (parts .0) ∙ none-in-front lines more each (parts .1)
+
 -- ---- tests of a line
 
 pub neither : (a b : Bool) → (a || b) ≡ false → (a ≡ false) × (b ≡ false)
 neither true b e = absurd (true≢false e)
 neither false b e = (refl, e)
 
-pub is-equal : (n m : ℕ) → not (eqb n m) ≡ false → n ≡ m
-is-equal n m e = eqb-true n m (not-false (eqb n m) e)
-
 -- line 5, where it does not hold
 pub right-length : (length right : ℕ) → line5 length right ≡ false → length ≡ right
 unfolding line5
-right-length = is-equal
+right-length n m e = eqb-true n m (not-false (eqb n m) e)
 
 pub length-right : (length right : ℕ) → length ≡ right → line5 length right ≡ false
 unfolding line5

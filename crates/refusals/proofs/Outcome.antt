@@ -6,7 +6,7 @@ use native.Mathlib.Nat.{suc-ne-zero}
 use native.Mathlib.Omega.{arith}
 use borrow.Author.Tests.{eq-eqb, ne-eqb}
 use lib.Dec.{eqb}
-use Rattle.refusals.specs.Outcome.{accepted, refused, outcome}
+use Rattle.refusals.specs.Outcome.{accepted, refused, outcome, numberOf}
 
 module _ {A : Type 0} (values : A) where
   -- ---- the outcome of an answer, by the number
@@ -31,6 +31,11 @@ module _ {A : Type 0} (values : A) where
   unfolding outcome
   outcome-refused zero number e = let z : _≡_ {A = ℕ} 0 1 = cc in absurd (omega arith)
   outcome-refused (suc lines) number e = (cc, suc-ne-zero lines)
+
+pub number-of-outcome : {A : Type 0} (number : ℕ) (values : A) → numberOf (outcome number values) ≡ number
+unfolding numberOf outcome
+number-of-outcome zero values = refl
+number-of-outcome (suc number) values = refl
 
 -- ---- what a call leaves of a state or of lent bytes: `before` where it is refused, else `after`
 

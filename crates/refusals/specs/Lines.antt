@@ -1,5 +1,5 @@
--- Lines in checking order (document 01, "Turned back, in checking order"): the line of a wrong length, which every crate uses, and the first
--- line that holds.
+-- Lines in checking order (document 01, "Turned back, in checking order"): the line of a wrong length, which the crates above share, and the
+-- first line that holds.
 use mathlib.Core.Bool.{Bool, true, not, _&&_, cond}
 use mathlib.Core.List.{List, [], _∷_}
 use Prim.Native.Nat.{ℕ}

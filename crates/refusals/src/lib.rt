@@ -1,5 +1,5 @@
 // How a call is turned back (document 01, "Turned back, in checking order"): a refusal, an answer that has no values of its own, and the
-// first line that holds. Every crate above uses these.
+// first line that holds. The crates above use these.
 ghost use mathlib.Core.Path.{_≡_};
 ghost use Rattle.refusals.specs.Outcome.{outcomeOf, numberOf};
 

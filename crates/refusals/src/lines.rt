@@ -1,5 +1,5 @@
 // Lines in checking order (document 01, "Turned back, in checking order"). A crate's own lines stand in its module `lines`; the number of a
-// wrong length is here, since three crates refuse by it.
+// wrong length is here, since several refuse by it.
 ghost use mathlib.Core.Bool.{cond};
 ghost use mathlib.Core.Path.{_≡_};
 
