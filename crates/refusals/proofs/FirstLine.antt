@@ -1,4 +1,4 @@
--- Lines in checking order: a chain of calls of `first` is their list, and what follows where none of them holds.
+-- Lines in checking order: what follows where none of them holds, and lines after other lines.
 use mathlib.Core.Bool.{Bool, true, false, cond, _||_, true≢false, false≢true, and-eq-true-iff}
 use mathlib.Core.List.{List, [], _∷_, _++_, append-assoc}
 use mathlib.Core.Path.{_≡_, refl, sym, ap, _∙_}
@@ -9,13 +9,8 @@ use borrow.Author.Tests.{ltb-true, eqb-true, not-false, eq-eqb}
 use lib.Dec.{ltb, eqb}
 use Rattle.refusals.specs.Lines.{line5, firstLine, numbered}
 
--- a line with its number in front of others, by what the code finds for it and for them
-pub in-front : {line holds : Bool} {others rest n : ℕ} (number : ℕ) → n ≡ cond holds number rest → holds ≡ line → rest ≡ others → n ≡ cond line number others
-in-front number e test after = cc
+-- ---- none of some lines holds; all of them at once, so that a law which uses some does not repeat their order
 
--- ---- all lines at once, so that a law which uses some of them does not repeat their order
-
--- none of some lines holds
 abbrev pub NoneHolds : List (Bool × ℕ) → Type 0
 NoneHolds [] = Unit {0}
 NoneHolds (line ∷ lines) = (line .0 ≡ false) × NoneHolds lines
