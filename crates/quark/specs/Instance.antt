@@ -97,8 +97,8 @@ S = record {
       ∷ 0x18 ∷ 0xC2 ∷ 0x4B ∷ 0x8A ∷ 0x19 ∷ 0xD0 ∷ 0x9C ∷ 0x24 ∷ 0x92 ∷ 0xDA ∷ 0x5D ∷ []);
 }
 
--- the instance of a number: 1 is U, 2 is D, 3 is S. For any other number the value is without effect: every operation tests the number
--- first (line 1 of document 01).
+-- the instance of a number: 1 is U, 2 is D, 3 is S. Any other number gives S too, so that r, b and n need no condition; every operation
+-- tests the number first.
 unfoldable pub instanceOf : ℕ → Instance
 instanceOf i = cond (eqb i 1) U (cond (eqb i 2) D S)
 

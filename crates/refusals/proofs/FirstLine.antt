@@ -58,7 +58,7 @@ none-of-both [] more none after = after
 none-of-both ((true, n) ∷ lines) more none after = none
 none-of-both ((false, n) ∷ lines) more none after = none-of-both lines more none after
 
--- and back
+-- and where none of both holds
 pub both-none : (lines more : List (Bool × ℕ)) → numbered lines ≡ true → firstLine (lines ++ more) ≡ 0 → (firstLine lines ≡ 0) × (firstLine more ≡ 0)
 unfolding firstLine
 both-none [] more each none = (refl, none)
@@ -66,7 +66,8 @@ both-none ((true, zero) ∷ lines) more each none = absurd (false≢true each)
 both-none ((true, suc n) ∷ lines) more each none = absurd (suc-ne-zero n none)
 both-none ((false, n) ∷ lines) more each none = both-none lines more (and-eq-true-iff (ltb 0 n) (numbered lines) .0 each .1) none
 
--- ---- a chain between two others, by the number that it gives with those in front: that number decides, or the lines after do
+-- ---- lines between others: where those in front and these give a number above 0, the lines after are not read; where they give 0, the lines
+-- after decide
 
 module _ (front lines more : List (Bool × ℕ)) (number : ℕ) (e : number ≡ firstLine (front ++ lines)) where
   pub decided-before : (number ≡ 0 → ⊥) → number ≡ firstLine (front ++ (lines ++ more))

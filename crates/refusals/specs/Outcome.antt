@@ -9,7 +9,7 @@ pub data Outcome (A : Type 0) : Type 0 where
   accepted : A → Outcome A
   refused : (number place : ℕ) → Outcome A
 
--- the outcome of a call whose lines give a number: place 0 outside of a journal
+-- the outcome of a call whose lines give a number, where no record of a journal is at fault: place 0
 unfoldable pub outcome : {A : Type 0} → (number : ℕ) → A → Outcome A
 outcome zero values = accepted values
 outcome (suc number) values = refused (suc number) 0
@@ -19,12 +19,12 @@ unfoldable pub outcomeOf : Answer → Outcome (Unit {0})
 outcomeOf Accepted = accepted tt
 outcomeOf (Refused r) = refused (r .number) (r .place)
 
--- the number that stands for an outcome in C: 0 where the call was accepted, else the line's
+-- the number that stands for an outcome: 0 where the call was accepted, else the line's
 unfoldable pub numberOf : {A : Type 0} → Outcome A → ℕ
 numberOf (accepted values) = 0
 numberOf (refused number place) = number
 
--- the place that stands for an outcome in C: 0 where the call was accepted
+-- the place that stands for an outcome: 0 where the call was accepted
 unfoldable pub placeOf : {A : Type 0} → Outcome A → ℕ
 placeOf (accepted values) = 0
 placeOf (refused number place) = place

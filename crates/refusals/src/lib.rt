@@ -5,13 +5,14 @@ ghost use Rattle.refusals.specs.Outcome.{outcomeOf, numberOf};
 
 pub mod lines;
 
-// Why a call was refused: the number of the first line of document 01 that holds, and a place, which is 0 outside of a journal.
+// Why a call was refused: the number of the first line of document 01 that holds, and a place: the index of the record that breaks it, and
+// 0 where no record of a journal does.
 pub struct Refusal {
     pub number: u32,
     pub place: usize,
 }
 
-// The answer of a call that hands back nothing but a buffer.
+// The answer of a call that has no values of its own.
 pub enum Answer {
     Accepted,
     Refused(Refusal),

@@ -88,16 +88,16 @@ blocks-none s n small z d = record {
 }
 
 module _ (s : State) where
-  abbrev held : ℕ → Content
-  held j = holding (contentOf s) (squeezed (instanceOf (s .instance)) j (contentOf s .sponge))
+  abbrev squeezedContent : ℕ → Content
+  squeezedContent j = holding (contentOf s) (squeezed (instanceOf (s .instance)) j (contentOf s .sponge))
 
-  wide-held : (j : ℕ) → Wide (instanceOf (s .instance) .b) (held j .sponge .bits)
-  wide-held j = wide-squeezed (instanceOf (s .instance)) (regular (s .instance)) j (contentOf s .sponge) (wide-content s)
+  wide-squeezed-content : (j : ℕ) → Wide (instanceOf (s .instance) .b) (squeezedContent j .sponge .bits)
+  wide-squeezed-content j = wide-squeezed (instanceOf (s .instance)) (regular (s .instance)) j (contentOf s .sponge) (wide-content s)
 
 module _ (s : State) (d buffer : List ℕ) (t : State) (k : ℕ) (g : BlocksOut s d buffer t k) where
   pub blocks-ready : (w : ℕ) → Ready s w → Ready t w
   unfolding withSponge
-  blocks-ready w r = ready-content (s .instance) (s .phase) (held s k) (wide-held s k) t (g .state-is) w (r .is-instance) (r .width)
+  blocks-ready w r = ready-content (s .instance) (s .phase) (squeezedContent s k) (wide-squeezed-content s k) t (g .state-is) w (r .is-instance) (r .width)
 
   pub blocks-runs : t .runs ≡ s .runs + k
   unfolding withSponge stateWith contentOf
@@ -114,11 +114,11 @@ module _ (s : State) (d buffer : List ℕ) (t : State) (k : ℕ) (g : BlocksOut 
 
   -- one block more, from the state u after P
   module _ (u : State) (e : u ≡ withSponge t (runP (instanceOf (t .instance)) (contentOf t .sponge))) where
-    after-run : u ≡ stateWith (s .instance) (s .phase) (held s (suc k))
+    after-run : u ≡ stateWith (s .instance) (s .phase) (squeezedContent s (suc k))
     unfolding withSponge squeezed contentOf
     after-run =
         e
-        ∙ of-content (s .instance) (s .phase) (held s k) (wide-held s k) t (g .state-is)
+        ∙ of-content (s .instance) (s .phase) (squeezedContent s k) (wide-squeezed-content s k) t (g .state-is)
         (λ i p h. stateWith i p (holding h (runP (instanceOf i) (h .sponge))))
 
     pub run-instance : u .instance ≡ s .instance
@@ -134,14 +134,14 @@ module _ (s : State) (d buffer : List ℕ) (t : State) (k : ℕ) (g : BlocksOut 
         let I = instanceOf (s .instance) in
         let q = I .r / 8 in
         let c = contentOf s .sponge in
-        let wide : Wide (I .b) (runP I c .bits) = wide-held s 1 in
+        let wide : Wide (I .b) (runP I c .bits) = wide-squeezed-content s 1 in
         let last : lastBytes (u .instance) (u .bits) ≡ bytesOf q (drop (I .b - I .r) (squeezed I k (runP I c) .bits)) =
         bytes-last (u .instance) (u .bits) n small
-        ∙ of-content (s .instance) (s .phase) (held s (suc k)) (wide-held s (suc k)) u after-run
+        ∙ of-content (s .instance) (s .phase) (squeezedContent s (suc k)) (wide-squeezed-content s (suc k)) u after-run
         (λ i p h. bytesOf (instanceOf i .r / 8) (drop (instanceOf i .b - instanceOf i .r) (h .sponge .bits)))
         ∙ ap (λ (x : Counted). bytesOf q (drop (I .b - I .r) (x .bits))) (sym (squeezed-run I k c)) in
         record {
-          state-is = after-run ∙ ap (λ (j : ℕ). stateWith (s .instance) (s .phase) (held s j)) (sym (add-one k));
+          state-is = after-run ∙ ap (λ (j : ℕ). stateWith (s .instance) (s .phase) (squeezedContent s j)) (sym (add-one k));
           buffer-is = en
               ∙ ap₂ (λ (l : List ℕ) (i : ℕ). paste buffer (k * q) l (instanceOf i .r / 8)) last run-instance
               ∙ output-next (s .instance) (runP I c) wide k d buffer (g .buffer-is);

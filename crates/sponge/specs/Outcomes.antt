@@ -1,5 +1,5 @@
 -- What each operation answers, for every input (document 01, "Pieces and finish" and "Turned back, in checking order"). Where a call is
--- refused, the state comes back as handed in, and so do the lent bytes.
+-- refused, the lent bytes are as they were, and so is the state, where one was handed in.
 use mathlib.Core.Bool.{Bool, not, cond}
 use mathlib.Core.List.{List, [], _∷_}
 use Prim.Native.Nat.{ℕ, _+_, _*_, _-_, _%_}

@@ -43,7 +43,7 @@ sound s =
 unfoldable pub contentOf : State → Content
 contentOf s = record { total = s .total; sponge = record { bits = bitsOf (instanceOf (s .instance) .b) (s .bits); runs = s .runs } }
 
--- the state of an instance that holds so much: 32 bytes, zero from b/8 on
+-- the state of an instance with a phase and this content: 32 bytes, zero from b/8 on
 unfoldable pub stateWith : (i phase : ℕ) → Content → State
 stateWith i phase h = record {
   instance = i;

@@ -48,7 +48,7 @@ pub fn init(instance: u32) -> Reply
     replies::refuse(UNKNOWN_INSTANCE, fresh::zeros())
 }
 
-// Document 01's piece: takes the first `count` bits of the bytes into an absorbing state, `width` steps of P together.
+// Document 01's piece: takes the first `count` bits of the bytes into an absorbing state. P takes `width` steps together.
 // Refuses by lines 1, 2, 3, 4, 6 and 7, in this order; the state then comes back as handed in.
 pub fn absorb(state: State, width: u32, bytes: &[u8], count: usize) -> Reply
     ensures { λ r. ⌜ resultOf r ≡ absorbResult state width (now (bytes .entry)) count ⌝ }

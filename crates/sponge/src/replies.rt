@@ -17,7 +17,7 @@ pub fn accept(state: State) -> Reply
     }
 }
 
-// Refused by a line, with the state as it was. Outside of a journal the place is 0.
+// Refused by a line, with the state that the call hands back. The place is 0.
 pub fn refuse(number: u32, state: State) -> Reply
     ensures { λ r. ⌜ resultOf r ≡ record { outcome = refused number 0; state = state } ⌝ }
 {
