@@ -9,6 +9,7 @@ pub mod RecordByRecord
 pub mod Accepted
 pub mod VerifyLoop
 pub mod KeyAndJournal
+pub mod FirstBytes
 pub mod Fits
 pub mod SealedInTurn
 pub mod Samples

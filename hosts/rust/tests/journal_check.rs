@@ -1,5 +1,9 @@
 //! The check program, target/bin/journal_check, run on inputs that the independent implementation makes: key, then journal. What it prints
 //! is compared with the line that is written here and with the independent implementation's.
+//!
+//! That the program reads all of its input, and tells a failed read from the end, is proved nowhere: no contract of the kit says what a read
+//! reads. So these tests try both mistakes. A buffer one byte shorter would accept `one_byte_over`, and a failed read that is taken for the
+//! end would accept the whole journal of `a_failed_read`.
 use reference::journal::{report, Body, BODY, LONGEST, RECORD};
 use reference::journals::{bodies, reseal, sealed};
 use reference::random::Random;
@@ -16,16 +20,23 @@ fn program() -> PathBuf {
     path
 }
 
-/// What the program prints where its standard input is this; its exit status is 0, and it writes no error.
-fn printed_from(input: Stdio) -> String {
+/// What the program prints and what it says on standard error, where its standard input is this; its exit status is 0.
+fn output_from(input: Stdio) -> (String, String) {
     let done = Command::new(program()).stdin(input).output().unwrap();
-    assert!(done.status.success() && done.stderr.is_empty());
-    String::from_utf8(done.stdout).unwrap()
+    assert!(done.status.success());
+    (String::from_utf8(done.stdout).unwrap(), String::from_utf8(done.stderr).unwrap())
+}
+
+/// What the program prints where its standard input is this; it says nothing on standard error.
+fn printed_from(input: Stdio) -> String {
+    let (printed, said) = output_from(input);
+    assert_eq!(said, "");
+    printed
 }
 
 /// What the program prints for an input that comes through a pipe, so many bytes at a time.
 fn printed(input: &[u8], at_a_time: usize) -> String {
-    let mut child = Command::new(program()).stdin(Stdio::piped()).stdout(Stdio::piped()).spawn().unwrap();
+    let mut child = Command::new(program()).stdin(Stdio::piped()).stdout(Stdio::piped()).stderr(Stdio::piped()).spawn().unwrap();
     let mut pipe = child.stdin.take().unwrap();
     for part in input.chunks(at_a_time) {
         // the program may stop reading once it has seen enough
@@ -37,7 +48,8 @@ fn printed(input: &[u8], at_a_time: usize) -> String {
     drop(pipe);
     let mut text = String::new();
     child.stdout.take().unwrap().read_to_string(&mut text).unwrap();
-    assert!(child.wait().unwrap().success());
+    let done = child.wait_with_output().unwrap();
+    assert!(done.status.success() && done.stderr.is_empty());
     text
 }
 
@@ -87,16 +99,22 @@ fn accepted_journals() {
 
 #[test]
 fn the_longest_journal() {
-    let mut longest = lawful(40, 1_600);
+    let longest = lawful(40, 1_600);
     assert_eq!(longest.len(), 16 + LONGEST);
     check(&longest, "accepted 1600 116800");
-    longest.push(0);
-    check(&longest, "refused 9 0");
-    longest.resize(16 + LONGEST + RECORD, 0);
-    check(&longest, "refused 9 0");
-    longest.resize(1_000_000, 0);
-    check(&longest, "refused 9 0");
     check(&vec![0; 16 + LONGEST], "refused 10 0");
+}
+
+/// The longest journal and one byte more: a program that reads a byte less than it must would not see it.
+#[test]
+fn one_byte_over() {
+    let mut over = lawful(40, 1_600);
+    over.push(0);
+    check(&over, "refused 9 0");
+    over.resize(16 + LONGEST + RECORD, 0);
+    check(&over, "refused 9 0");
+    over.resize(1_000_000, 0);
+    check(&over, "refused 9 0");
 }
 
 #[test]
@@ -198,26 +216,43 @@ fn endless_input() {
     assert_eq!(printed_from(File::open("/dev/zero").unwrap().into()), "refused 9 0\n");
 }
 
-/// What the program prints where a read fails after so much input: a socket that does not wait has nothing more to read yet.
+const READING_FAILED: &str = "journal_check: reading standard input failed\n";
+
+const WRITING_FAILED: &str = "journal_check: writing standard output failed\n";
+
+/// Where a read fails after so much input, as on a socket that does not wait and has nothing more to read yet: the line that is printed.
+/// Standard error says what failed.
 fn printed_after_failure(input: &[u8]) -> String {
     let (mut ours, theirs) = UnixStream::pair().unwrap();
     theirs.set_nonblocking(true).unwrap();
     ours.write_all(input).unwrap();
-    let text = printed_from(OwnedFd::from(theirs).into());
+    let (printed, said) = output_from(OwnedFd::from(theirs).into());
     drop(ours);
-    text
+    assert_eq!(said, READING_FAILED);
+    printed
 }
 
-/// A read that fails is not the end of an input: nothing is accepted.
+/// A read that fails is not the end of an input: nothing is accepted, not even where a whole journal has come.
 #[test]
 fn a_failed_read() {
     // a folder can be opened, and not read
-    assert_eq!(printed_from(File::open("/").unwrap().into()), "refused 5 0\n");
+    assert_eq!(output_from(File::open("/").unwrap().into()), ("refused 5 0\n".into(), READING_FAILED.into()));
     let whole = lawful(47, 5);
+    assert_eq!(printed(&whole, usize::MAX), "accepted 5 365\n");
     for length in [0, 1, 15] {
         assert_eq!(printed_after_failure(&whole[..length]), "refused 5 0\n");
     }
     for length in [16, 17, 16 + RECORD, whole.len()] {
         assert_eq!(printed_after_failure(&whole[..length]), "refused 9 0\n");
     }
+}
+
+/// A line that cannot be written is said on standard error, and the exit status is 0 all the same.
+#[test]
+fn a_failed_write() {
+    let full = File::options().write(true).open("/dev/full").unwrap();
+    let done = Command::new(program()).stdin(Stdio::null()).stdout(full).stderr(Stdio::piped()).spawn().unwrap();
+    let done = done.wait_with_output().unwrap();
+    assert!(done.status.success());
+    assert_eq!(String::from_utf8(done.stderr).unwrap(), WRITING_FAILED);
 }

@@ -14,7 +14,7 @@ slice-aggregate-read-input : tie.Need-slice-aggregate-read-input
 slice-aggregate-read-input c = search needs
 
 read-input-requires : tie.Need-read-input-requires
-read-input-requires c κs = tt
+read-input-requires c κs = search needs
 
 sub-report : tie.Need-sub-report
 sub-report c = search needs
@@ -28,22 +28,22 @@ part-report-end c = search needs
 report-requires : tie.Need-report-requires
 report-requires c κs = tt
 
-sub-write-all : tie.Need-sub-write-all
-sub-write-all c = search needs
+sub-print : tie.Need-sub-print
+sub-print c = search needs
 
-part-write-all-start : tie.Need-part-write-all-start
-part-write-all-start c = search needs
+part-print-start : tie.Need-part-print-start
+part-print-start c = search needs
 
 -- the text is within the bytes that hold it
 within : (printed : Printed) (text : List ℕ) → printed ≡ holding text → printed .len ≤ length (printed .bytes)
 unfolding holding
 within printed text e = rw e (omega (arith, length-append text (replicate (32 - length text) 0)))
 
-part-write-all-end : tie.Need-part-write-all-end
-part-write-all-end c = within (c .before .before .report .result) (reportText _) (c .before .before .report .ensures)
+part-print-end : tie.Need-part-print-end
+part-print-end c = within (c .before .before .report .result) (reportText _) (c .before .before .report .ensures)
 
-write-all-requires : tie.Need-write-all-requires
-write-all-requires c κs = search needs
+print-requires : tie.Need-print-requires
+print-requires c κs = search needs
 
 returns : tie.Need-returns
 returns c = search needs
@@ -58,8 +58,8 @@ main-spec =
     part-report-start
     part-report-end
     report-requires
-    sub-write-all
-    part-write-all-start
-    part-write-all-end
-    write-all-requires
+    sub-print
+    part-print-start
+    part-print-end
+    print-requires
     returns)
