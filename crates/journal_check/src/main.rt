@@ -15,15 +15,14 @@ use libc::STDOUT_FILENO;
 
 // How many bytes to report on where a read failed, which is said on standard error. Fewer than a key are refused by line 5. Else it is the
 // whole buffer, which line 9 refuses as over-long, so that a failed read is never accepted.
-fn after_failed_read(done: usize, size: usize) -> usize
-    requires { ⌜ done ≤ size ⌝ }
-    ensures { λ r. ⌜ (r ≤ size) × (done < 16 → r ≡ done) × (16 ≤ done → r ≡ size) ⌝ }
+fn after_failed_read(done: usize) -> usize
+    ensures { λ r. ⌜ (r ≤ mostRead) × (done < 16 → r ≡ done) × (16 ≤ done → r ≡ mostRead) ⌝ }
 {
     io::write_all(
         STDERR_FILENO,
         b"journal_check: reading standard input failed\n",
     );
-    if done < 16 { done } else { size }
+    if done < 16 { done } else { MOST_READ }
 }
 
 // Reads until the buffer is full, the input ends or a read fails, and says how many bytes to report on.
@@ -35,7 +34,7 @@ fn read_input(buffer: &mut [u8]) -> usize
     while done < buffer.len() {
         let got = libc::read(STDIN_FILENO, &mut buffer[done..]);
         if got < 0 {
-            return after_failed_read(done, buffer.len());
+            return after_failed_read(done);
         }
         let count = io::count(got, &buffer[done..]);
         if count == 0 {
