@@ -1,8 +1,8 @@
 /*
  * Wilbroged for C and C++: QUARK's permutation, its inverse and its digest, sealed records and the journal check.
  *
- * Link target/staticlib/libquark_c.a, which `rt staticlib quark_c` writes; it is for x86-64, and of the C library it needs memcpy and
- * memmove. The functions are those of crates/quark_c, each proved to answer and to write what its comment here says, for every input.
+ * Link target/staticlib/libwilbroged.a, which `rt staticlib wilbroged` writes; it is for x86-64, and of the C library it needs memcpy and
+ * memmove. The functions are those of crates/wilbroged, each proved to answer and to write what its comment here says, for every input.
  *
  * Instances. 1 is U-QUARK, 2 is D-QUARK, 3 is S-QUARK. A state and a digest have 17, 22 and 32 bytes.
  *

@@ -1,4 +1,4 @@
-//! Safe wrappers over the proved functions of `quark_c`: QUARK's permutation, its inverse and its digest, and the sealed journal.
+//! Safe wrappers over the proved functions of `wilbroged`: QUARK's permutation, its inverse and its digest, and the sealed journal.
 //!
 //! Instance 1 is U-QUARK (states and digests of 17 bytes), 2 is D-QUARK (22 bytes), 3 is S-QUARK (32 bytes). A step width says how many
 //! steps are taken together: 1 or 8, and 16 for instance 3 alone. Every width gives the same bytes. Bit i of a state or a message is in

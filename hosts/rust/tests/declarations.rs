@@ -1,4 +1,4 @@
-//! The declarations of `src`, and those of the C header, are those of the exported functions in `crates/quark_c/src`. Nothing else compares
+//! The declarations of `src`, and those of the C header, are those of the exported functions in `crates/wilbroged/src`. Nothing else compares
 //! them: a linker sees names alone. The header's refusal numbers are those of the Rattle sources.
 use std::collections::BTreeMap;
 use std::fs;
@@ -52,7 +52,7 @@ fn sources(folder: &str, ending: &str) -> String {
 
 /// The exported functions of the Rattle source, as C sees them.
 fn exported() -> BTreeMap<String, Signature> {
-    signatures(&sources("../../crates/quark_c/src", "rt"), "pub extern \"C\" fn ", &['\n', '{'])
+    signatures(&sources("../../crates/wilbroged/src", "rt"), "pub extern \"C\" fn ", &['\n', '{'])
         .into_iter()
         .map(|(name, (parameters, result))| (name, (parameters.into_iter().flat_map(in_c).collect(), result)))
         .collect()
