@@ -33,7 +33,7 @@
 /* The version of the project, of which this header and the archive are a part. */
 #define WILBROGED_VERSION "0.1.0"
 
-/* The instances of QUARK. BYTES is the length of a state and of a digest, WIDTH the widest step width. */
+/* U-QUARK, D-QUARK and S-QUARK: the number of the instance, the bytes of a state and of a digest, and the widest step width. */
 #define WILBROGED_U 1
 #define WILBROGED_U_BYTES 17
 #define WILBROGED_U_WIDTH 8
@@ -144,8 +144,9 @@ WILBROGED_NODISCARD
 uint32_t journal_verify(const uint8_t *key, size_t key_len, const uint8_t *journal, size_t journal_len);
 
 /*
- * Where journal_verify refuses the same arguments: the record's index, from 0, for 10, 11 and 12; else 0. It is 0 also where the journal is
- * accepted, so ask journal_verify first. It refuses nothing and writes nothing, and takes as long as journal_verify.
+ * The index of the record, counted from 0, by which journal_verify refuses the same arguments with 10, 11 or 12. It is 0 where
+ * journal_verify refuses with another number, and where it accepts, so ask journal_verify first. It refuses nothing and writes nothing,
+ * and takes as long as journal_verify.
  */
 uint64_t journal_refused_at(const uint8_t *key, size_t key_len, const uint8_t *journal, size_t journal_len);
 
