@@ -14,8 +14,8 @@
  *
  * Bits. Bit i of a state or a message is in byte i div 8, with weight 2 to the (7 - i mod 8): the highest bit of a byte is its first.
  *
- * Bytes. A row of bytes is a pointer and a length, NAME and NAME_len, and needs no alignment. The pointer must be good for as many bytes as
- * the length says, and where that is 0 it may be any pointer, NULL too.
+ * Slices. A slice of bytes is a pointer and a length, NAME and NAME_len, and needs no alignment. The pointer must be good for as many bytes
+ * as the length says, and where that is 0 it may be any pointer, NULL too.
  *
  * Overlap. A buffer that is written (one without const) must not overlap another argument of the same call, in any function.
  *
