@@ -39,7 +39,7 @@ static int all(const uint8_t *bytes, size_t length, uint8_t value) {
 #define BEFORE 0xA5
 
 /* The longest digest, and one byte more. */
-#define ROOM 33
+#define ROOM (WILBROGED_S_BYTES + 1)
 
 /* Appendix B: two states, one permutation apart, and the digest of the empty message. */
 struct instance {
@@ -47,21 +47,21 @@ struct instance {
     size_t bytes;
     uint32_t widths[3];
     size_t width_count;
-    uint8_t state[32];
-    uint8_t permuted[32];
-    uint8_t empty_digest[32];
+    uint8_t state[WILBROGED_S_BYTES];
+    uint8_t permuted[WILBROGED_S_BYTES];
+    uint8_t empty_digest[WILBROGED_S_BYTES];
 };
 
 static const struct instance instances[3] = {
-    {1, 17, {1, 8, 0}, 2,
+    {WILBROGED_U, WILBROGED_U_BYTES, {1, WILBROGED_U_WIDTH, 0}, 2,
      {0xD8, 0xDA, 0xCA, 0x44, 0x41, 0x4A, 0x09, 0x97, 0x19, 0xC8, 0x0A, 0xA3, 0xAF, 0x06, 0x56, 0x44, 0x5B},
      {0x9A, 0x03, 0xA9, 0xDE, 0xFB, 0xB9, 0xED, 0x38, 0x67, 0xDA, 0xB1, 0x8E, 0xC0, 0x39, 0x27, 0x62, 0x12},
      {0x12, 0x6B, 0x75, 0xBC, 0xAB, 0x23, 0x14, 0x47, 0x50, 0xD0, 0x8B, 0xA3, 0x13, 0xBB, 0xD8, 0x00, 0xA4}},
-    {2, 22, {1, 8, 0}, 2,
+    {WILBROGED_D, WILBROGED_D_BYTES, {1, WILBROGED_D_WIDTH, 0}, 2,
      {0xCC, 0x6C, 0x4A, 0xB7, 0xD1, 0x1F, 0xA9, 0xBD, 0xF6, 0xEE, 0xDE, 0x03, 0xD8, 0x7B, 0x68, 0xF9, 0x1B, 0xAA, 0x70, 0x6C, 0xA0, 0xE9},
      {0xE1, 0xAF, 0xDD, 0xED, 0x75, 0xF7, 0x2D, 0x33, 0xAE, 0x3F, 0x60, 0xD3, 0xA1, 0xA9, 0xE9, 0xFA, 0x75, 0x9A, 0xC6, 0xF0, 0x82, 0xC7},
      {0x82, 0xC7, 0xF3, 0x80, 0xE2, 0x31, 0x57, 0x8E, 0x2F, 0xF4, 0xC2, 0xA4, 0x02, 0xE1, 0x8B, 0xF3, 0x7A, 0xEA, 0x84, 0x77, 0x29, 0x8D}},
-    {3, 32, {1, 8, 16}, 3,
+    {WILBROGED_S, WILBROGED_S_BYTES, {1, 8, WILBROGED_S_WIDTH}, 3,
      {0x39, 0x72, 0x51, 0xCE, 0xE1, 0xDE, 0x8A, 0xA7, 0x3E, 0xA2, 0x62, 0x50, 0xC6, 0xD7, 0xBE, 0x12,
       0x8C, 0xD3, 0xE7, 0x9D, 0xD7, 0x18, 0xC2, 0x4B, 0x8A, 0x19, 0xD0, 0x9C, 0xA4, 0x92, 0xDA, 0x5D},
      {0x3D, 0x63, 0xF5, 0x41, 0x00, 0xA7, 0xBC, 0x51, 0x35, 0x69, 0x2F, 0x3B, 0xDE, 0x15, 0x63, 0xF7,
@@ -78,9 +78,9 @@ static void permutations(void) {
             uint8_t state[ROOM];
             memset(state, BEFORE, ROOM);
             memcpy(state, in->state, in->bytes);
-            CHECK(quark_permute(in->number, in->widths[w], state, in->bytes) == 0);
+            CHECK(quark_permute(in->number, in->widths[w], state, in->bytes) == WILBROGED_ACCEPTED);
             CHECK(memcmp(state, in->permuted, in->bytes) == 0);
-            CHECK(quark_invert(in->number, in->widths[w], state, in->bytes) == 0);
+            CHECK(quark_invert(in->number, in->widths[w], state, in->bytes) == WILBROGED_ACCEPTED);
             CHECK(memcmp(state, in->state, in->bytes) == 0);
             CHECK(all(state + in->bytes, ROOM - in->bytes, BEFORE));
         }
@@ -115,12 +115,12 @@ static void empty_digests(void) {
         for (w = 0; w < in->width_count; w++) {
             uint8_t digest[ROOM];
             memset(digest, BEFORE, ROOM);
-            CHECK(quark_digest(in->number, in->widths[w], NULL, 0, 0, digest, in->bytes) == 0);
+            CHECK(quark_digest(in->number, in->widths[w], NULL, 0, 0, digest, in->bytes) == WILBROGED_ACCEPTED);
             CHECK(memcmp(digest, in->empty_digest, in->bytes) == 0);
             CHECK(all(digest + in->bytes, ROOM - in->bytes, BEFORE));
             /* a message of which no bit is taken is the empty one */
             memset(digest, BEFORE, ROOM);
-            CHECK(quark_digest(in->number, in->widths[w], in->state, in->bytes, 0, digest, in->bytes) == 0);
+            CHECK(quark_digest(in->number, in->widths[w], in->state, in->bytes, 0, digest, in->bytes) == WILBROGED_ACCEPTED);
             CHECK(memcmp(digest, in->empty_digest, in->bytes) == 0);
         }
     }
@@ -168,11 +168,14 @@ static void digest_refusals(void) {
     CHECK(digest_refusal(2, 16, 2, 16, 22) == WILBROGED_UNKNOWN_WIDTH);
 }
 
+/* Short names for the lengths. */
+#define KEY WILBROGED_KEY_BYTES
+#define SEAL WILBROGED_SEAL_BYTES
+#define BODY WILBROGED_BODY_BYTES
+#define RECORD WILBROGED_RECORD_BYTES
+#define LONGEST WILBROGED_LONGEST_JOURNAL_BYTES
+
 /* The sample: a key, and a journal of five records. */
-#define KEY 16
-#define SEAL 17
-#define BODY 23
-#define RECORD 40
 #define RECORDS 5
 #define JOURNAL (RECORDS * RECORD)
 
@@ -190,7 +193,7 @@ static int sealed_again(const uint8_t *sample, size_t index) {
     const uint8_t *whole = sample + KEY + RECORD * index;
     uint8_t record[RECORD + 1];
     memset(record, BEFORE, sizeof record);
-    return journal_seal(sample, KEY, index == 0 ? zeros : whole - SEAL, SEAL, whole, BODY, record, RECORD) == 0
+    return journal_seal(sample, KEY, index == 0 ? zeros : whole - SEAL, SEAL, whole, BODY, record, RECORD) == WILBROGED_ACCEPTED
         && memcmp(record, whole, RECORD) == 0 && record[RECORD] == BEFORE;
 }
 
@@ -209,13 +212,23 @@ static void journals(const uint8_t *sample) {
     uint8_t body[BODY], record[RECORD];
     size_t i;
 
-    CHECK(journal_verify(key, KEY, journal, JOURNAL) == 0);
+    CHECK(journal_verify(key, KEY, journal, JOURNAL) == WILBROGED_ACCEPTED);
     CHECK(journal_refused_at(key, KEY, journal, JOURNAL) == 0);
-    CHECK(journal_verify(key, KEY, NULL, 0) == 0);
+    CHECK(journal_verify(key, KEY, journal, JOURNAL - RECORD) == WILBROGED_ACCEPTED);
+    CHECK(journal_verify(key, KEY, NULL, 0) == WILBROGED_ACCEPTED);
+    CHECK(journal_refused_at(key, KEY, NULL, 0) == 0);
     CHECK(journal_verify(key, KEY - 1, journal, JOURNAL) == WILBROGED_WRONG_LENGTH);
+    CHECK(journal_verify(key, KEY + 1, journal, JOURNAL) == WILBROGED_WRONG_LENGTH);
+    CHECK(journal_verify(NULL, 0, NULL, 0) == WILBROGED_WRONG_LENGTH);
+    CHECK(journal_refused_at(key, KEY - 1, journal, JOURNAL) == 0);
     CHECK(journal_verify(key, KEY, journal, JOURNAL - 1) == WILBROGED_WRONG_JOURNAL_LENGTH);
     CHECK(journal_refused_at(key, KEY, journal, JOURNAL - 1) == 0);
-    CHECK(journal_verify(key, KEY, long_message, 64040) == WILBROGED_WRONG_JOURNAL_LENGTH);
+    /* the longest journal, of zeros, is refused at its first record, and a longer one before that */
+    CHECK(journal_verify(key, KEY, long_message, LONGEST) == WILBROGED_BROKEN_LAYOUT);
+    CHECK(journal_refused_at(key, KEY, long_message, LONGEST) == 0);
+    CHECK(journal_verify(key, KEY, long_message, LONGEST + 1) == WILBROGED_WRONG_JOURNAL_LENGTH);
+    CHECK(journal_verify(key, KEY, long_message, LONGEST + RECORD) == WILBROGED_WRONG_JOURNAL_LENGTH);
+    CHECK(journal_refused_at(key, KEY, long_message, LONGEST + RECORD) == 0);
     for (i = 0; i < RECORDS; i++) {
         CHECK(sealed_again(sample, i));
         CHECK(damaged(sample, i, 12, WILBROGED_BROKEN_LAYOUT));
@@ -226,8 +239,12 @@ static void journals(const uint8_t *sample) {
     }
 
     CHECK(seal_refusal(sample, KEY - 1, SEAL, BODY, RECORD) == WILBROGED_WRONG_LENGTH);
+    CHECK(seal_refusal(sample, KEY + 1, SEAL, BODY, RECORD) == WILBROGED_WRONG_LENGTH);
+    CHECK(seal_refusal(sample, KEY, SEAL - 1, BODY, RECORD) == WILBROGED_WRONG_LENGTH);
     CHECK(seal_refusal(sample, KEY, SEAL + 1, BODY, RECORD) == WILBROGED_WRONG_LENGTH);
     CHECK(seal_refusal(sample, KEY, SEAL, BODY - 1, RECORD) == WILBROGED_WRONG_LENGTH);
+    CHECK(seal_refusal(sample, KEY, SEAL, BODY + 1, RECORD) == WILBROGED_WRONG_LENGTH);
+    CHECK(seal_refusal(sample, KEY, SEAL, BODY, RECORD - 1) == WILBROGED_WRONG_LENGTH);
     CHECK(seal_refusal(sample, KEY, SEAL, BODY, RECORD + 1) == WILBROGED_WRONG_LENGTH);
     memcpy(body, journal, BODY);
     body[13] = 7;

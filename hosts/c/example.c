@@ -2,31 +2,33 @@
 #include "wilbroged.h"
 
 #include <stdio.h>
+#include <string.h>
 
 int main(void) {
-    const uint8_t key[16] = {1, 2, 3};
-    const uint8_t zeros[17] = {0};
-    const uint8_t message[4] = {'l', 'a', 'm', 'p'};
-    uint8_t body[23] = {0}, journal[80], digest[32];
+    const uint8_t key[WILBROGED_KEY_BYTES] = {1, 2, 3}, message[4] = {'l', 'a', 'm', 'p'};
+    uint8_t body[WILBROGED_BODY_BYTES] = {0}, previous[WILBROGED_SEAL_BYTES] = {0}; /* zeros before the first record */
+    uint8_t journal[2 * WILBROGED_RECORD_BYTES], digest[WILBROGED_S_BYTES], *record = journal;
+    uint32_t answer;
 
     body[12] = 1; /* lit, */
     body[13] = 2; /* the lamp at position 2 */
-    body[7] = 1;  /* the first record */
-    if (journal_seal(key, 16, zeros, 17, body, 23, journal, 40) != 0) {
-        return 1;
+    for (body[7] = 1; body[7] <= 2; body[7]++, record += WILBROGED_RECORD_BYTES) { /* sequences 1 and 2 */
+        if (journal_seal(key, sizeof key, previous, sizeof previous, body, sizeof body, record, WILBROGED_RECORD_BYTES)
+            != WILBROGED_ACCEPTED) {
+            return 1;
+        }
+        memcpy(previous, record + WILBROGED_BODY_BYTES, sizeof previous);
     }
-    body[7] = 2; /* the second, with the seal of the first */
-    if (journal_seal(key, 16, journal + 23, 17, body, 23, journal + 40, 40) != 0) {
-        return 1;
-    }
-    if (journal_verify(key, 16, journal, 80) != 0) {
+    if (journal_verify(key, sizeof key, journal, sizeof journal) != WILBROGED_ACCEPTED) {
         return 1;
     }
 
-    journal[54] ^= 1; /* the second record's current */
-    printf("refused %u at record %u\n",
-           (unsigned)journal_verify(key, 16, journal, 80), (unsigned)journal_refused_at(key, 16, journal, 80));
+    journal[WILBROGED_RECORD_BYTES + 14] ^= 1; /* the second record's current */
+    answer = journal_verify(key, sizeof key, journal, sizeof journal);
+    if (answer == WILBROGED_DIFFERENT_SEAL) {
+        printf("refused %u at record %u\n", (unsigned)answer, (unsigned)journal_refused_at(key, sizeof key, journal, sizeof journal));
+    }
 
-    /* S-QUARK at width 16, of the message's 32 bits */
-    return quark_digest(3, 16, message, 4, 32, digest, 32) == 0 ? 0 : 1;
+    answer = quark_digest(WILBROGED_S, WILBROGED_S_WIDTH, message, sizeof message, 8 * sizeof message, digest, sizeof digest);
+    return answer == WILBROGED_ACCEPTED ? 0 : 1;
 }

@@ -1,25 +1,34 @@
 // Seals two records, checks their journal, and digests a message.
-use wilbroged::{digest, seal, verify, Refused};
+use wilbroged::{digest, seal, verify, Refused, BODY_BYTES, RECORD_BYTES, S, SEAL_BYTES, S_BYTES, S_WIDTH};
 
-fn main() {
+fn run() -> Result<(), Refused> {
     let key = *b"lighthouse key 1";
-    let mut body = [0; 23];
+    let mut body = [0; BODY_BYTES];
     body[12] = 1; // lit,
     body[13] = 2; // the lamp at position 2
-    let mut journal = [0; 80];
-    let mut previous = [0; 17];
-    for (sequence, record) in (1..).zip(journal.chunks_mut(40)) {
+    let mut journal = [0; 2 * RECORD_BYTES];
+    let mut previous = [0; SEAL_BYTES]; // zeros before the first record
+    for (sequence, record) in (1..).zip(journal.chunks_mut(RECORD_BYTES)) {
         body[7] = sequence;
-        seal(&key, &previous, &body, record).expect("the body keeps the layout");
-        previous.copy_from_slice(&record[23..]);
+        seal(&key, &previous, &body, record)?;
+        previous.copy_from_slice(&record[BODY_BYTES..]);
     }
-    assert_eq!(verify(&key, &journal), Ok(()));
+    verify(&key, &journal)?;
 
-    journal[54] ^= 1; // the second record's current
-    assert_eq!(verify(&key, &journal), Err(Refused { number: 12, place: 1 }));
+    let mut changed = journal;
+    changed[RECORD_BYTES + 14] ^= 1; // the second record's current
+    assert_eq!(verify(&key, &changed), Err(Refused { number: Refused::DIFFERENT_SEAL, place: Some(1) }));
 
     let message = b"lamp";
-    let mut bytes = [0; 32];
-    digest(3, 16, message, 32, &mut bytes).expect("S-QUARK has 32 bytes, and 16 is a width of it");
+    let mut bytes = [0; S_BYTES];
+    digest(S, S_WIDTH, message, 8 * message.len() as u64, &mut bytes)?;
     println!("S-QUARK of lamp: {bytes:02X?}");
+    Ok(())
+}
+
+fn main() {
+    if let Err(refused) = run() {
+        eprintln!("{refused}");
+        std::process::exit(1);
+    }
 }

@@ -1,7 +1,9 @@
-//! The declarations of `src`, and those of the C header, are those of the exported functions in `crates/quark_c/src`. Nothing else compares
-//! them: a linker sees names alone. The header's refusal numbers are those of the Rattle sources.
+//! The declarations of `src`, and those of the C header, are those of the exported functions in `crates/wilbroged/src`. Nothing else compares
+//! them: a linker sees names alone. The header's names have the values that they have in Rust, and the refusals their numbers and sentences
+//! from the Rattle sources.
 use std::collections::BTreeMap;
 use std::fs;
+use wilbroged::Refused;
 
 /// Name and type of each parameter, and the type of the result.
 type Signature = (Vec<(String, String)>, String);
@@ -52,7 +54,7 @@ fn sources(folder: &str, ending: &str) -> String {
 
 /// The exported functions of the Rattle source, as C sees them.
 fn exported() -> BTreeMap<String, Signature> {
-    signatures(&sources("../../crates/quark_c/src", "rt"), "pub extern \"C\" fn ", &['\n', '{'])
+    signatures(&sources("../../crates/wilbroged/src", "rt"), "pub extern \"C\" fn ", &['\n', '{'])
         .into_iter()
         .map(|(name, (parameters, result))| (name, (parameters.into_iter().flat_map(in_c).collect(), result)))
         .collect()
@@ -68,10 +70,13 @@ fn declarations_match_the_rattle_source() {
     assert_eq!(declared, exported());
 }
 
-/// The C header without its comments.
+/// The C header.
 fn header() -> String {
-    let path = concat!(env!("CARGO_MANIFEST_DIR"), "/../../include/wilbroged.h");
-    let text = fs::read_to_string(path).unwrap();
+    fs::read_to_string(concat!(env!("CARGO_MANIFEST_DIR"), "/../../include/wilbroged.h")).unwrap()
+}
+
+/// A text in C without its comments.
+fn without_c_comments(text: &str) -> String {
     text.split("/*").map(|part| part.split_once("*/").map_or(part, |(_, code)| code)).collect()
 }
 
@@ -95,37 +100,100 @@ fn name_and_type(text: &str) -> (String, String) {
     (text[name..].to_string(), in_rust(text[..name].trim()))
 }
 
+/// Every function but the one that answers a place is marked: a compiler warns where its answer is ignored.
 #[test]
 fn the_header_matches_the_rattle_source() {
-    let code: String = header().lines().filter(|line| !line.starts_with('#')).collect::<Vec<_>>().join("\n");
+    let code = without_c_comments(&header());
+    let code: String = code.lines().filter(|line| !line.starts_with('#')).collect::<Vec<_>>().join("\n");
     let code = code.trim().strip_prefix("extern \"C\" {").unwrap().strip_suffix('}').unwrap();
     let prototypes = code.split(';').map(str::trim).filter(|text| !text.is_empty()).map(|prototype| {
         let (front, list) = prototype.split_once('(').expect("a parameter list");
         let list = list.strip_suffix(')').expect("the end of a parameter list");
-        let (name, result) = name_and_type(front);
+        let marked = front.strip_prefix("WILBROGED_NODISCARD\n");
+        let (name, result) = name_and_type(marked.unwrap_or(front));
+        assert_eq!(marked.is_some(), name != "journal_refused_at", "the mark of {name}");
         (name, (list.split(',').map(name_and_type).collect(), result))
     });
     assert_eq!(prototypes.collect::<BTreeMap<String, Signature>>(), exported());
 }
 
-#[test]
-fn the_headers_refusals_match_the_rattle_sources() {
-    let header = header();
-    let defined: BTreeMap<&str, &str> = header
+/// The names that the header defines as numbers or as text, without their prefix.
+fn defined(header: &str) -> BTreeMap<&str, &str> {
+    header
         .lines()
         .filter_map(|line| line.strip_prefix("#define WILBROGED_"))
         .filter_map(|definition| definition.split_once(' '))
-        .collect();
+        .filter(|(name, _)| *name != "NODISCARD")
+        .collect()
+}
 
-    let lines: String = ["refusals", "permutation", "sponge", "records", "journal"]
+/// Names of constants with their values, as they are written.
+macro_rules! named {
+    ($first:ident::{$($name:ident),* $(,)?}) => {
+        [$((stringify!($name), $first::$name.to_string())),*]
+    };
+}
+
+/// The refusals of Rust, by name.
+fn refusals() -> BTreeMap<&'static str, String> {
+    BTreeMap::from(named!(Refused::{
+        UNKNOWN_INSTANCE, UNKNOWN_WIDTH, WRONG_LENGTH, COUNT_OVER_BYTES, TOTAL_OVER_LIMIT, WRONG_JOURNAL_LENGTH, BROKEN_LAYOUT,
+        NOT_FOLLOWING, DIFFERENT_SEAL,
+    }))
+}
+
+/// What the names of instances, widths and lengths stand for is tried in `lengths.rs`.
+#[test]
+fn the_headers_values_are_those_of_rust() {
+    let mut expected = refusals();
+    expected.extend(named!(wilbroged::{
+        U, U_BYTES, U_WIDTH, D, D_BYTES, D_WIDTH, S, S_BYTES, S_WIDTH,
+        KEY_BYTES, SEAL_BYTES, BODY_BYTES, RECORD_BYTES, LONGEST_JOURNAL_BYTES,
+    }));
+    expected.insert("ACCEPTED", "0".to_string());
+    expected.insert("VERSION", format!("{:?}", env!("CARGO_PKG_VERSION")));
+    let header = header();
+    let found: BTreeMap<&str, String> = defined(&header).into_iter().map(|(name, value)| (name, value.to_string())).collect();
+    assert_eq!(found, expected);
+}
+
+/// The sources in which the refusals have their names, one after the other.
+fn lines_of_rattle() -> String {
+    ["refusals", "permutation", "sponge", "records", "journal"]
         .map(|name| fs::read_to_string(format!("{}/../../crates/{name}/src/lines.rt", env!("CARGO_MANIFEST_DIR"))).unwrap())
-        .concat();
-    let constants = lines.lines().filter_map(|line| line.strip_prefix("pub ").unwrap_or(line).strip_prefix("const "));
-    let numbers: BTreeMap<&str, &str> =
-        constants.map(|constant| constant.trim_end_matches(';').split_once(": u32 = ").unwrap()).collect();
+        .concat()
+}
 
-    // those that no exported function answers: there is no state among its arguments, line 8 never holds, and nothing is found by an index
+/// Name, number and the line before it, of each refusal of the Rattle sources that an exported function can answer.
+fn answered(sources: &str) -> Vec<(&str, &str, &str)> {
+    // the others: there is no state among the arguments, line 8 never holds, and nothing is found by an index
     let unanswered = ["UNSOUND_STATE", "CLOSED_STATE", "PADDED_LENGTH", "NO_SUCH_RECORD"];
-    let answered = numbers.into_iter().filter(|(name, _)| !unanswered.contains(name));
-    assert_eq!(defined, answered.collect());
+    let pairs = sources.lines().zip(sources.lines().skip(1));
+    let constants = pairs.filter_map(|(before, line)| {
+        let constant = line.strip_prefix("pub ").unwrap_or(line).strip_prefix("const ")?;
+        let (name, number) = constant.trim_end_matches(';').split_once(": u32 = ").unwrap();
+        Some((name, number, before))
+    });
+    constants.filter(|(name, _, _)| !unanswered.contains(name)).collect()
+}
+
+#[test]
+fn the_refusals_are_those_of_the_rattle_sources() {
+    let sources = lines_of_rattle();
+    let numbers = answered(&sources).into_iter().map(|(name, number, _)| (name, number.to_string()));
+    assert_eq!(refusals(), numbers.collect());
+}
+
+/// A refusal has one sentence: what Rust prints, and the comment above its name in the Rattle source and in the header.
+#[test]
+fn the_refusals_have_one_sentence() {
+    let (header, sources) = (header(), lines_of_rattle());
+    for (name, number, comment) in answered(&sources) {
+        let sentence =
+            comment.strip_prefix(&format!("// {number}. ")).unwrap_or_else(|| panic!("the comment above {name}: {comment}"));
+        let printed = Refused { number: number.parse().unwrap(), place: None }.to_string();
+        assert_eq!(printed, format!("refusal {number}: {sentence}"));
+        let lines = format!("\n/* {sentence} */\n#define WILBROGED_{name} {number}\n");
+        assert!(header.contains(&lines), "the header has not {lines}");
+    }
 }

@@ -47,12 +47,12 @@ fn short_messages_of_s() {
     short_messages(3);
 }
 
-/// Every bit length, with as few bytes as it needs and with bytes behind.
+/// Every bit length, with as few bytes as it needs and with bytes after them.
 fn every_bit_length(instance: u32) {
     let mut random = Random::new(100 + u64::from(instance));
     for bits in 0..=600usize {
-        let behind = random.word() as usize % 3;
-        let message = random.bytes(bits.div_ceil(8) + behind);
+        let more = random.word() as usize % 3;
+        let message = random.bytes(bits.div_ceil(8) + more);
         compare(instance, widths(instance), &message, bits);
     }
 }
@@ -72,9 +72,9 @@ fn every_bit_length_of_s() {
     every_bit_length(3);
 }
 
-/// Bits after the count are ignored: zeros with ones behind them have the digest of zeros.
+/// A digest reads no bit after the count: zeros with ones after them have the digest of zeros.
 #[test]
-fn bits_behind_are_ignored() {
+fn bits_after_the_count() {
     for instance in 1..=3 {
         for bits in 0..=80usize {
             let zeros = expected(instance, &[0; 12], bits).bytes;

@@ -1,6 +1,6 @@
-//! Every refusal of the digest that can occur, in checking order, with the buffer as it was: 1 the instance, 4 the width, 5 the buffer's
-//! length, 6 more bits than there are, 7 more than 16,777,215 (document 01, "Turned back, in checking order"). A refusal reads no message,
-//! so that one message serves for all.
+//! Every refusal of the digest that can occur, in checking order (docs/RULES.md), with the buffer as it was: 1 the instance, 4 the width,
+//! 5 the buffer's length, 6 more bits than there are, 7 more than 16,777,215. The message's bits have no part in a refusal, so that one
+//! message serves for all.
 use wilbroged::digest;
 
 const LIMIT: u64 = 16_777_215;
@@ -14,10 +14,11 @@ fn answer(instance: u32, width: u32, message: &[u8], bits: u64, length: usize) -
             assert_ne!(buffer, before);
             0
         }
-        Err(number) => {
-            assert_ne!(number, 0);
+        Err(refused) => {
+            assert_ne!(refused.number, 0);
+            assert_eq!(refused.place, None);
             assert_eq!(buffer, before, "instance {instance}, width {width}, {bits} bits, {length} bytes");
-            number
+            refused.number
         }
     }
 }

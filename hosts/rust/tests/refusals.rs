@@ -1,5 +1,5 @@
-//! Every refusal of permutation and inverse, in checking order, with the buffer as it was: 1 the instance, 4 the width, 5 the length
-//! (document 01, "Turned back, in checking order").
+//! Every refusal of permutation and inverse, in checking order (docs/RULES.md), with the buffer as it was: 1 the instance, 4 the width,
+//! 5 the length.
 use wilbroged::{invert, permute};
 
 /// The answer of both functions; whatever is refused leaves the buffer as it was.
@@ -8,10 +8,11 @@ fn answer(instance: u32, width: u32, length: usize) -> u32 {
     let mut numbers = [0; 2];
     for (function, number) in [permute, invert].into_iter().zip(&mut numbers) {
         let mut state = before.clone();
-        if let Err(refusal) = function(instance, width, &mut state) {
+        if let Err(refused) = function(instance, width, &mut state) {
             assert_eq!(state, before, "instance {instance}, width {width}, {length} bytes");
-            assert_ne!(refusal, 0);
-            *number = refusal;
+            assert_ne!(refused.number, 0);
+            assert_eq!(refused.place, None);
+            *number = refused.number;
         }
     }
     assert_eq!(numbers[0], numbers[1], "instance {instance}, width {width}, {length} bytes");

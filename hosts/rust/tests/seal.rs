@@ -2,20 +2,20 @@
 use reference::journal::{self as expected, Body};
 use reference::journals::bodies;
 use reference::random::Random;
-use wilbroged::seal;
+use wilbroged::{seal, Refused};
 
-/// Compares both, from a buffer that holds something.
+/// Compares both, from a buffer that holds something, and answers the refusal's number.
 fn compare(key: &[u8], previous: &[u8], body: &[u8], length: usize) -> Result<(), u32> {
     let before: Vec<u8> = (0..length).map(|i| (37 * i + 11) as u8).collect();
     let (mut record, mut record_expected) = (before.clone(), before.clone());
     let answer = seal(key, previous, body, &mut record);
     let answer_expected = expected::seal(key, previous, body, &mut record_expected);
-    assert_eq!(answer, answer_expected.map(|runs| assert_eq!(runs, 73)));
+    assert_eq!(answer, answer_expected.map(|runs| assert_eq!(runs, 73)).map_err(|number| Refused { number, place: None }));
     assert_eq!(record, record_expected, "key {key:02X?}, previous {previous:02X?}, body {body:02X?}");
     if answer.is_err() {
         assert_eq!(record, before);
     }
-    answer
+    answer.map_err(|refused| refused.number)
 }
 
 #[test]
@@ -27,7 +27,7 @@ fn bodies_that_keep_the_layout() {
     }
 }
 
-/// Station, sequence, time and current may be any value, and so may the milliseconds of kind 3.
+/// Sealing reads no station, sequence, time or current, and takes any milliseconds of kind 3.
 #[test]
 fn extreme_fields() {
     for any in [0, u32::MAX] {

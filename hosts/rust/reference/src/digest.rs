@@ -30,7 +30,7 @@ pub fn initial(instance: u32) -> Vec<u8> {
     })
 }
 
-/// The padded form of a message's first `bits` bits: a 1 and as few zeros as reach a whole number of blocks.
+/// The padded form of a message's first `bits` bits: after them a 1, and zeros up to the end of a block.
 pub fn padded(instance: u32, message: &[u8], bits: usize) -> Vec<u8> {
     let mut form = message[..bits.div_ceil(8)].to_vec();
     if bits % 8 == 0 {

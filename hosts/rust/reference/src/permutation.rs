@@ -59,7 +59,7 @@ impl Instance for D {
 impl Instance for S {
     const HALF: usize = 128;
     const F: [usize; 13] = [0, 16, 26, 28, 39, 52, 61, 69, 84, 94, 97, 103, 111];
-    // The paper says "function f" for S's g, and lists g's taps: g is meant.
+    // The paper has "function f" here, above a list of g's taps.
     const G: [usize; 13] = [0, 13, 28, 30, 37, 56, 65, 69, 79, 92, 96, 101, 109];
 
     #[inline(always)]

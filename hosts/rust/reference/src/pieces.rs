@@ -1,5 +1,5 @@
-//! States, pieces and finish, from document 01 ("Pieces and finish", "Turned back, in checking order"). A call answers the number of
-//! the first line that holds, 0 where it is accepted, and the state that it hands back.
+//! States, pieces and finish, from document 01 ("Pieces and finish"). A call answers the number of the first line of docs/RULES.md that
+//! holds, 0 where it is accepted, and the state that it hands back.
 use crate::digest::{initial, rate_bytes};
 use crate::{permute, state_bytes};
 
@@ -57,7 +57,7 @@ impl State {
     }
 }
 
-/// A fresh state; all zeros where the instance is refused.
+/// A fresh state, or one of zeros alone for an instance that there is not.
 pub fn init(instance: u32) -> (u32, State) {
     let mut state = State { instance: 0, phase: 0, total: 0, runs: 0, bits: [0; 32] };
     if !is_instance(instance) {

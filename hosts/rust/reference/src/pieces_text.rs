@@ -34,7 +34,7 @@ fn fields(state: State) -> String {
     format!("instance {instance}, phase {phase}, total {total}, runs {runs}, bits {}", hexadecimal::text(&bits))
 }
 
-/// The bits of a message from bit `from` on; what stands behind them is 0.
+/// The bits of a message from bit `from` on; what stands after them is 0.
 fn part(message: &[u8], from: usize, count: usize) -> Vec<u8> {
     let mut bytes = vec![0; 9];
     for i in 0..count {
@@ -88,7 +88,7 @@ fn cuts(text: &mut String, instance: u32, message: &[u8], bits: usize) {
     writeln!(text, "bit by bit: agrees").unwrap();
 }
 
-/// States whose bits are sound: as many bytes as the instance has, and zeros behind.
+/// States whose bits are sound: as many bytes as the instance has, and zeros after them.
 fn bits(instance: u32) -> [u8; 32] {
     match instance {
         1 => *b"A U-QUARK state..\0\0\0\0\0\0\0\0\0\0\0\0\0\0\0",

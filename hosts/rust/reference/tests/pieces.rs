@@ -16,7 +16,7 @@ fn pieces_give_the_whole_digest() {
             let mut taken = 0;
             while taken < bits {
                 let count = (random.word() as usize % 13).min(bits - taken);
-                // the piece starts at bit `taken`; what stands behind its bits is ignored
+                // the piece starts at bit `taken`; what stands after its bits is ignored
                 let mut piece = vec![0xFF; 2];
                 for i in 0..count {
                     let bit = message[(taken + i) / 8] >> (7 - (taken + i) % 8) & 1;

@@ -2,8 +2,8 @@
 use mathlib.Core.Path.{ap, _∙_}
 use borrow.Author.Needs.{needs}
 use Rattle.refusals.specs.Outcome.{numberOf}
-use Rattle.quark_c.proofs.quark_permute.Statement.{statement}
-use Rattle.quark_c.proofs.quark_permute.Tie as tie
+use Rattle.wilbroged.proofs.quark_permute.Statement.{statement}
+use Rattle.wilbroged.proofs.quark_permute.Tie as tie
 
 permute-requires : tie.Need-permute-requires
 permute-requires c κs = tt

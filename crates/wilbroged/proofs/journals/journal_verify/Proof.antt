@@ -2,8 +2,8 @@
 use mathlib.Core.Path.{ap, _∙_}
 use Rattle.refusals.specs.declared.Refusal.{Refusal}
 use Rattle.refusals.specs.Outcome.{numberOf, refusalOf}
-use Rattle.quark_c.proofs.journals.journal_verify.Statement.{statement}
-use Rattle.quark_c.proofs.journals.journal_verify.Tie as tie
+use Rattle.wilbroged.proofs.journals.journal_verify.Statement.{statement}
+use Rattle.wilbroged.proofs.journals.journal_verify.Tie as tie
 
 verify-requires : tie.Need-verify-requires
 verify-requires c κs = tt

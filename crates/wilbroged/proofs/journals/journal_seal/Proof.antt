@@ -2,8 +2,8 @@
 use mathlib.Core.Path.{ap, _∙_}
 use borrow.Author.Needs.{needs}
 use Rattle.refusals.specs.Outcome.{numberOf}
-use Rattle.quark_c.proofs.journals.journal_seal.Statement.{statement}
-use Rattle.quark_c.proofs.journals.journal_seal.Tie as tie
+use Rattle.wilbroged.proofs.journals.journal_seal.Statement.{statement}
+use Rattle.wilbroged.proofs.journals.journal_seal.Tie as tie
 
 seal-requires : tie.Need-seal-requires
 seal-requires c κs = tt

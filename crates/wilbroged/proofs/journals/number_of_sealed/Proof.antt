@@ -4,8 +4,8 @@ use borrow.Author.Needs.{needs}
 use Rattle.refusals.specs.Outcome.{numberOf}
 use Rattle.records.specs.declared.Sealed.{Sealed}
 use Rattle.records.specs.Sealing.{sealedOutcome}
-use Rattle.quark_c.proofs.journals.number_of_sealed.Statement.{statement}
-use Rattle.quark_c.proofs.journals.number_of_sealed.Tie as tie
+use Rattle.wilbroged.proofs.journals.number_of_sealed.Statement.{statement}
+use Rattle.wilbroged.proofs.journals.number_of_sealed.Tie as tie
 
 enum-told : tie.Need-enum-told
 enum-told c = search needs

@@ -2,8 +2,8 @@
 use mathlib.Core.Path.{ap, _∙_}
 use borrow.Author.Needs.{needs}
 use Rattle.refusals.specs.Outcome.{numberOf}
-use Rattle.quark_c.proofs.digest.quark_digest.Statement.{statement}
-use Rattle.quark_c.proofs.digest.quark_digest.Tie as tie
+use Rattle.wilbroged.proofs.digest.quark_digest.Statement.{statement}
+use Rattle.wilbroged.proofs.digest.quark_digest.Tie as tie
 
 digest-requires : tie.Need-digest-requires
 digest-requires c κs = tt

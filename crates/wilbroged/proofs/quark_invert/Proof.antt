@@ -2,8 +2,8 @@
 use mathlib.Core.Path.{ap, _∙_}
 use borrow.Author.Needs.{needs}
 use Rattle.refusals.specs.Outcome.{numberOf}
-use Rattle.quark_c.proofs.quark_invert.Statement.{statement}
-use Rattle.quark_c.proofs.quark_invert.Tie as tie
+use Rattle.wilbroged.proofs.quark_invert.Statement.{statement}
+use Rattle.wilbroged.proofs.quark_invert.Tie as tie
 
 invert-requires : tie.Need-invert-requires
 invert-requires c κs = tt
