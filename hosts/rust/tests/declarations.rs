@@ -1,8 +1,10 @@
 //! The declarations of `src`, and those of the C header, are those of the exported functions in `crates/wilbroged/src`. Nothing else compares
 //! them: a linker sees names alone. The header's names have the values that they have in Rust, and the refusals their numbers and sentences
 //! from the Rattle sources.
+mod sources;
+
+use sources::Refusal;
 use std::collections::BTreeMap;
-use std::fs;
 use wilbroged::Refused;
 
 /// Name and type of each parameter, and the type of the result.
@@ -43,18 +45,15 @@ fn without_comments(source: &str) -> String {
     source.lines().map(|line| line.split("//").next().unwrap()).collect::<Vec<_>>().join("\n")
 }
 
-/// The sources with an ending in a folder, one after the other, without their comments.
-fn sources(folder: &str, ending: &str) -> String {
-    let folder = format!("{}/{folder}", env!("CARGO_MANIFEST_DIR"));
-    let paths = fs::read_dir(folder).unwrap().map(|entry| entry.unwrap().path());
-    let texts =
-        paths.filter(|path| path.extension().is_some_and(|found| found == ending)).map(|path| fs::read_to_string(path).unwrap());
-    texts.map(|text| without_comments(&text)).collect::<Vec<_>>().join("\n")
+/// The sources with an ending in a folder of the repository, one after the other, without their comments.
+fn code_in(folder: &str, ending: &str) -> String {
+    let files = sources::names(folder).into_iter().filter(|name| name.ends_with(ending));
+    files.map(|name| without_comments(&sources::text(&format!("{folder}/{name}")))).collect::<Vec<_>>().join("\n")
 }
 
 /// The exported functions of the Rattle source, as C sees them.
 fn exported() -> BTreeMap<String, Signature> {
-    signatures(&sources("../../crates/wilbroged/src", "rt"), "pub extern \"C\" fn ", &['\n', '{'])
+    signatures(&code_in("crates/wilbroged/src", ".rt"), "pub extern \"C\" fn ", &['\n', '{'])
         .into_iter()
         .map(|(name, (parameters, result))| (name, (parameters.into_iter().flat_map(in_c).collect(), result)))
         .collect()
@@ -62,7 +61,7 @@ fn exported() -> BTreeMap<String, Signature> {
 
 #[test]
 fn declarations_match_the_rattle_source() {
-    let rust = sources("src", "rs");
+    let rust = code_in("hosts/rust/src", ".rs");
     let blocks = rust.split("extern \"C\" {").skip(1).map(|block| block.split('}').next().unwrap());
     let declared: BTreeMap<_, Signature> = blocks.flat_map(|block| signatures(block, "fn ", &[';'])).collect();
 
@@ -72,7 +71,7 @@ fn declarations_match_the_rattle_source() {
 
 /// The C header.
 fn header() -> String {
-    fs::read_to_string(concat!(env!("CARGO_MANIFEST_DIR"), "/../../include/wilbroged.h")).unwrap()
+    sources::text("include/wilbroged.h")
 }
 
 /// A text in C without its comments.
@@ -157,42 +156,27 @@ fn the_headers_values_are_those_of_rust() {
     assert_eq!(found, expected);
 }
 
-/// The sources in which the refusals have their names, one after the other.
-fn lines_of_rattle() -> String {
-    ["refusals", "permutation", "sponge", "records", "journal"]
-        .map(|name| fs::read_to_string(format!("{}/../../crates/{name}/src/lines.rt", env!("CARGO_MANIFEST_DIR"))).unwrap())
-        .concat()
-}
-
-/// Name, number and the line before it, of each refusal of the Rattle sources that an exported function can answer.
-fn answered(sources: &str) -> Vec<(&str, &str, &str)> {
+/// The refusals of the Rattle sources that an exported function can answer.
+fn answered() -> Vec<Refusal> {
     // the others: there is no state among the arguments, line 8 never holds, and nothing is found by an index
     let unanswered = ["UNSOUND_STATE", "CLOSED_STATE", "PADDED_LENGTH", "NO_SUCH_RECORD"];
-    let pairs = sources.lines().zip(sources.lines().skip(1));
-    let constants = pairs.filter_map(|(before, line)| {
-        let constant = line.strip_prefix("pub ").unwrap_or(line).strip_prefix("const ")?;
-        let (name, number) = constant.trim_end_matches(';').split_once(": u32 = ").unwrap();
-        Some((name, number, before))
-    });
-    constants.filter(|(name, _, _)| !unanswered.contains(name)).collect()
+    sources::refusals().into_iter().filter(|refusal| !unanswered.contains(&refusal.name.as_str())).collect()
 }
 
 #[test]
 fn the_refusals_are_those_of_the_rattle_sources() {
-    let sources = lines_of_rattle();
-    let numbers = answered(&sources).into_iter().map(|(name, number, _)| (name, number.to_string()));
-    assert_eq!(refusals(), numbers.collect());
+    let numbers: BTreeMap<String, String> =
+        answered().into_iter().map(|refusal| (refusal.name, refusal.number.to_string())).collect();
+    let named: BTreeMap<String, String> = refusals().into_iter().map(|(name, number)| (name.to_string(), number)).collect();
+    assert_eq!(named, numbers);
 }
 
 /// A refusal has one sentence: what Rust prints, and the comment above its name in the Rattle source and in the header.
 #[test]
 fn the_refusals_have_one_sentence() {
-    let (header, sources) = (header(), lines_of_rattle());
-    for (name, number, comment) in answered(&sources) {
-        let sentence =
-            comment.strip_prefix(&format!("// {number}. ")).unwrap_or_else(|| panic!("the comment above {name}: {comment}"));
-        let printed = Refused { number: number.parse().unwrap(), place: None }.to_string();
-        assert_eq!(printed, format!("refusal {number}: {sentence}"));
+    let header = header();
+    for Refusal { number, name, sentence } in answered() {
+        assert_eq!(Refused { number, place: None }.to_string(), format!("refusal {number}: {sentence}"));
         let lines = format!("\n/* {sentence} */\n#define WILBROGED_{name} {number}\n");
         assert!(header.contains(&lines), "the header has not {lines}");
     }
