@@ -1,11 +1,10 @@
--- Lines in checking order (document 01, "Turned back, in checking order"): the line of a wrong length, which the crates above share, and the
--- first line that holds.
+-- Lines in checking order (docs/RULES.md): the line of a wrong length, which the crates above share, and the first line that holds.
 use mathlib.Core.Bool.{Bool, true, not, _&&_, cond}
 use mathlib.Core.List.{List, [], _∷_}
 use Prim.Native.Nat.{ℕ}
 use lib.Dec.{ltb, eqb}
 
--- 5. The length of a buffer, a key, a previous seal, a body or a record is not the right one.
+-- 5. A slice whose length is fixed has another length.
 unfoldable pub line5 : (length right : ℕ) → Bool
 line5 length right = not (eqb length right)
 

@@ -1,10 +1,10 @@
--- What a call answers (document 01, "Turned back, in checking order").
+-- What a call answers (docs/RULES.md).
 use Prim.Native.Nat.{ℕ, zero, suc}
 use Rattle.refusals.specs.declared.Answer.{Answer}
 use Rattle.refusals.specs.declared.Answer.the-variants.{Accepted, Refused}
 use Rattle.refusals.specs.declared.Refusal.{Refusal}
 
--- accepted, with the values that the call's paragraph names; or turned back, with a line's number and a place
+-- accepted, with the call's values; or refused, with a line's number and a place
 pub data Outcome (A : Type 0) : Type 0 where
   accepted : A → Outcome A
   refused : (number place : ℕ) → Outcome A

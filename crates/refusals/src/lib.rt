@@ -1,12 +1,12 @@
-// How a call is turned back (document 01, "Turned back, in checking order"): a refusal, an answer that has no values of its own, and the
-// first line that holds. The crates above use these.
+// How a call is refused (docs/RULES.md): a refusal, an answer that has no values of its own, and the first line that holds. The crates above
+// use these.
 ghost use mathlib.Core.Path.{_≡_};
 ghost use Rattle.refusals.specs.Outcome.{outcomeOf, numberOf};
 
 pub mod lines;
 
-// Why a call was refused: the number of the first line of document 01 that holds, and a place: the index of the record that breaks it, and
-// 0 where no record of a journal does.
+// Why a call was refused: the number of the first line that holds, and a place: the index of the record that breaks it, and 0 where no
+// record of a journal does.
 pub struct Refusal {
     pub number: u32,
     pub place: usize,

@@ -1,9 +1,9 @@
-// Lines in checking order (document 01, "Turned back, in checking order"). A crate's own lines stand in its module `lines`; the number of a
-// wrong length is here, since several refuse by it.
+// Lines in checking order (docs/RULES.md). A crate's own lines stand in its module `lines`; the number of a wrong length is here, since
+// several refuse by it.
 ghost use mathlib.Core.Bool.{cond};
 ghost use mathlib.Core.Path.{_≡_};
 
-// 5. A buffer of a state or a digest does not have its instance's length, or a key, a previous seal, a body or a record not its own.
+// 5. A slice whose length is fixed has another length.
 pub const WRONG_LENGTH: u32 = 5;
 
 // The number of a line that holds, or what the lines after it give. A chain of calls, last line first, gives the first line that holds.

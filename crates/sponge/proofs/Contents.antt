@@ -90,7 +90,7 @@ module _ (s : State) (x : ℕ) where
   abbrev pub counted : Content
   counted = record { total = s .total + 1; sponge = added }
 
-  -- the total reaches a multiple of r, and P runs
+  -- the bit is the last of its block, and P runs
   pub take-bit-runs : (t : State) → t ≡ stateWith (s .instance) (s .phase) counted
       → (s .total + 1) % instanceOf (s .instance) .r ≡ 0
       → withSponge t (runP (instanceOf (t .instance)) (contentOf t .sponge)) ≡ stateWith (s .instance) (s .phase) (takeBit (instanceOf (s .instance)) (contentOf s) x)
@@ -99,7 +99,7 @@ module _ (s : State) (x : ℕ) where
       of-content (s .instance) (s .phase) counted wide-next t e (λ i p h. stateWith i p (holding h (runP (instanceOf i) (h .sponge))))
       ∙ rw (eq-eqb _ _ z)
 
-  -- it does not
+  -- it is not
   pub take-bit-waits : ((s .total + 1) % instanceOf (s .instance) .r ≡ 0 → ⊥)
       → stateWith (s .instance) (s .phase) counted
       ≡ stateWith (s .instance) (s .phase) (takeBit (instanceOf (s .instance)) (contentOf s) x)

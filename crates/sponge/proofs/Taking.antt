@@ -109,7 +109,7 @@ module _ (I : Instance) (R : Regular I) where
     pub take-bit : (x : ℕ) → takeBit I (openContent I m) x ≡ openContent I (m ++ (x ∷ []))
     take-bit x = elim (ℕ-discrete (suc (length m % I .r)) (I .r)) [ yes e ↦ bit-fills x e | no d ↦ bit-leaves x (omega (arith, part-lt)) ]
 
-    -- the 1 and as few zeros as fill the block
+    -- the 1, and zeros to the end of its block
     pad-absorbed : afterPadding I (openContent I m) ≡ absorbed I m
     unfolding afterPadding openContent absorbed before pad
     pad-absorbed =

@@ -1,4 +1,4 @@
--- Lists of piece and finish calls, and a list's message (document 01, "Pieces and finish"; demand 3).
+-- Calls in a list, pieces and finishes, and the message that a list has (document 01, "Pieces and finish"; demand 3).
 use mathlib.Core.Bool.{Bool, true, false, cond}
 use mathlib.Core.List.{List, [], _∷_, _++_}
 use Prim.Native.Nat.{ℕ}
@@ -11,8 +11,8 @@ use Rattle.permutation.specs.Lines.{line4}
 use Rattle.sponge.specs.declared.State.{State}
 use Rattle.sponge.specs.Outcomes.{line6, line7, initResult, absorbNumber, absorbResult, finishNumber, finishResult}
 
--- a call's arguments but the state: a piece's bytes as they are when the call is made, its bit count and its step width; a finish's step
--- width and the length of its buffer
+-- a call's arguments but the state: of a piece the bytes that it reads, its bit count and its step width; of a finish its step width and the
+-- length of its buffer
 pub data Call : Type 0 where
   piece : (bytes : List ℕ) (count width : ℕ) → Call
   finish : (width buffer : ℕ) → Call
@@ -29,23 +29,23 @@ unfoldable pub after : State → Call → State
 after s (piece bytes count width) = absorbResult s width bytes count .state
 after s (finish width buffer) = finishResult s width buffer .state
 
--- each call gets the state that the call before it handed back
+-- the calls of a list one after the other, each on what the previous one left
 unfoldable pub runFrom : State → List Call → State
 runFrom s [] = s
 runFrom s (call ∷ calls) = runFrom (after s call) calls
 
--- a list starts from a fresh state
+-- from the state that `init` makes
 unfoldable pub run : ℕ → List Call → State
 run i calls = runFrom (initResult i .state) calls
 
--- ---- document 01's message of a list, from the calls' arguments alone
+-- ---- the message of a list, worked out from arguments and from no state
 
 -- its bits, and whether it is closed
 pub record Message : Type 0 where
   pub bits : List ℕ
   pub closed : Bool
 
--- at first it is empty and open
+-- before the first call
 abbrev pub empty : Message
 empty = record { bits = []; closed = false }
 
@@ -55,12 +55,12 @@ messageNumber i m (piece bytes count width) =
     firstLine ((m .closed, 3) ∷ (line4 i width, 4) ∷ (line6 (length bytes) count, 6) ∷ (line7 (length (m .bits)) count, 7) ∷ [])
 messageNumber i m (finish width buffer) = firstLine ((m .closed, 3) ∷ (line4 i width, 4) ∷ (line5 buffer (stateBytes i), 5) ∷ [])
 
--- what an accepted call makes of an open message: a piece appends its first bits, as many as the count; a finish closes it
+-- what an accepted call makes of a message: a piece makes it longer by `count` bits, and a finish closes it
 unfoldable pub grown : Message → Call → Message
 grown m (piece bytes count width) = record { bits = m .bits ++ bitsOf count bytes; closed = false }
 grown m (finish width buffer) = record { bits = m .bits; closed = true }
 
--- the message after one more call: it grows exactly where the number is 0, so that a refused call adds nothing
+-- the message after one more call: it grows where no line holds, and so a refused call adds nothing
 unfoldable pub extended : ℕ → Message → Call → Message
 extended i m call = cond (eqb (messageNumber i m call) 0) (grown m call) m
 

@@ -1,5 +1,5 @@
--- What each operation answers, for every input (document 01, "Pieces and finish" and "Turned back, in checking order"). Where a call is
--- refused, the lent bytes are as they were, and so is the state, where one was handed in.
+-- What each operation answers, for every input (document 01, "Pieces and finish"; the lines are those of docs/RULES.md). Where a call is
+-- refused, the lent bytes are as they were, and so is the state, where one was given.
 use mathlib.Core.Bool.{Bool, not, cond}
 use mathlib.Core.List.{List, [], _∷_}
 use Prim.Native.Nat.{ℕ, _+_, _*_, _-_, _%_}
@@ -18,23 +18,23 @@ use Rattle.sponge.specs.Soundness.{limit, absorbingPhase, closedPhase, s
 
 -- ---- the lines
 
--- 2. A state is not sound, or its phase is not 0 or 1.
+-- 2. The state is not sound.
 unfoldable pub line2 : State → Bool
 line2 s = not (sound s)
 
--- 3. A piece or finish comes to a closed state.
+-- 3. The state is closed and takes nothing more.
 unfoldable pub line3 : State → Bool
 line3 s = eqb (s .phase) closedPhase
 
--- 6. A piece's count is over 8 times its bytes.
+-- 6. There are fewer bits than the count says.
 unfoldable pub line6 : (bytes count : ℕ) → Bool
 line6 bytes count = ltb (8 * bytes) count
 
--- 7. A total would pass 16,777,215.
+-- 7. The message would have more than 16,777,215 bits.
 unfoldable pub line7 : (total count : ℕ) → Bool
 line7 total count = ltb limit (total + count)
 
--- 8. A finish's padded length is no multiple of r.
+-- 8. The padded message does not end with a whole block.
 unfoldable pub line8 : (i total : ℕ) → Bool
 line8 i total = not (eqb ((total + 1 + (instanceOf i .r - 1 - total % instanceOf i .r)) % instanceOf i .r) 0)
 

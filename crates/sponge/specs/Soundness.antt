@@ -13,7 +13,7 @@ use Rattle.sponge.specs.Taking.{Content}
 abbrev pub limit : ℕ
 limit = 16777215
 
--- document 01's phases
+-- the phases
 abbrev pub absorbingPhase : ℕ
 absorbingPhase = 0
 
@@ -28,11 +28,11 @@ allZero (x ∷ xs) = eqb x 0 && allZero xs
 unfoldable pub soundRuns : Instance → (phase total : ℕ) → ℕ
 soundRuns I phase total = cond (eqb phase absorbingPhase) (total / I .r) (total / I .r + I .n / I .r)
 
--- the bytes from b/8 on are zero
+-- nothing but zeros after the first b/8 bytes
 abbrev pub restZero : State → Bool
 restZero s = allZero (drop (stateBytes (s .instance)) (s .bits))
 
--- the total is at most the limit, bytes from b/8 on are zero, and the runs are those of the total; the phase is 0 or 1
+-- four tests: of the total, of the bytes that the instance does not use, of the runs by total and phase, and of the phase
 unfoldable pub sound : State → Bool
 sound s =
     leb (s .total) limit && restZero s
@@ -43,7 +43,7 @@ sound s =
 unfoldable pub contentOf : State → Content
 contentOf s = record { total = s .total; sponge = record { bits = bitsOf (instanceOf (s .instance) .b) (s .bits); runs = s .runs } }
 
--- the state of an instance with a phase and this content: 32 bytes, zero from b/8 on
+-- the state of an instance with a phase and this content: 32 bytes, of which those after the first b/8 are zero
 unfoldable pub stateWith : (i phase : ℕ) → Content → State
 stateWith i phase h = record {
   instance = i;
@@ -53,7 +53,7 @@ stateWith i phase h = record {
   bits = bytesOf 32 (h .sponge .bits);
 }
 
--- document 01's fresh state: total and runs 0, and the initial bits
+-- the fresh state: no bit taken, no run made, and the initial bits
 unfoldable pub fresh : ℕ → State
 fresh i = stateWith i absorbingPhase (record { total = 0; sponge = record { bits = instanceOf i .initial; runs = 0 } })
 

@@ -8,7 +8,7 @@ use Rattle.quark.specs.Bytes.{bit}
 use Rattle.quark.specs.Instance.{Instance}
 use Rattle.quark.specs.Sponge.{Counted, runP, squeezed, output}
 
--- the total of bits taken, the state's bits, and how often P has run
+-- how many bits were taken, the state's bits, and how often P has run
 pub record Content : Type 0 where
   pub total : ℕ
   pub sponge : Counted
@@ -26,7 +26,7 @@ module _ (I : Instance) where
   unfoldable pub addBit : ℕ → ℕ → Counted → Counted
   addBit at x s = record { bits = set (s .bits) at ((bit (s .bits) at + x) % 2); runs = s .runs }
 
-  -- a bit is added at its index, then the total grows by one, and P runs whenever the total reaches a multiple of r
+  -- one bit: it is added at its index and counted, and where it is the last of its block, P runs
   unfoldable pub takeBit : Content → ℕ → Content
   takeBit h x =
       let total = h .total + 1 in
@@ -38,11 +38,11 @@ module _ (I : Instance) where
   takeBits h [] = h
   takeBits h (x ∷ xs) = takeBits (takeBit h x) xs
 
-  -- a 1 is added at the next index, and P runs; the padding does not count in the total
+  -- the 1 of the padding goes where the next bit would, and P runs; the total stays that of the message
   unfoldable pub afterPadding : Content → Counted
   afterPadding h = runP I (addBit (bitIndex (h .total)) 1 (h .sponge))
 
-  -- then the last r bits are given out n/r times with P between: what is given out, and what is held after it
+  -- then n/r blocks are given out, each the last r bits, and from one to the next P runs: what is given out, and what is held after it
   unfoldable pub finishOutput : Content → List ℕ
   finishOutput h = output I (I .n / I .r) (afterPadding h)
 

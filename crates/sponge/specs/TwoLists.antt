@@ -1,5 +1,5 @@
--- Demand 3 of document 01: the statement about two whole lists of piece and finish calls, refused ones included, each from a fresh state
--- of one and the same instance. Its proof is in proofs/TwoLists.antt.
+-- Demand 3 of document 01: the statement about two whole lists of calls, of which any may be refused, each from a fresh state of one and the
+-- same instance. Its proof is in proofs/TwoLists.antt.
 use mathlib.Core.Bool.{true, cond}
 use mathlib.Core.List.{List}
 use mathlib.Core.Logic.{_↔_, _⊎_}
@@ -48,7 +48,7 @@ AnswersFollow =
 abbrev pub bitsIn : ℕ → List Call → List ℕ
 bitsIn i calls = messageOf i calls .bits
 
--- two lists of instance 1, 2 or 3 that both end closed, with messages that pad to equally many blocks
+-- two lists of one instance that both end closed, with messages that pad to equally many blocks
 pub record Comparable (i : ℕ) (calls calls′ : List Call) : Type 0 where
   pub is-instance : isInstance i ≡ true
   pub closes : messageOf i calls .closed ≡ true

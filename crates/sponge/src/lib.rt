@@ -27,7 +27,7 @@ pub struct State {
     pub total: u32,
     // how often P has run
     pub runs: u32,
-    // the state's bits in byte form, zero from b/8 bytes on
+    // the state's bits in byte form: b/8 bytes, and zeros after them
     pub bits: [u8; 32],
 }
 
@@ -37,7 +37,7 @@ pub struct Reply {
     pub state: State,
 }
 
-// Document 01's fresh state: total and runs 0, and the initial bits of the instance.
+// Document 01's fresh state: no bit taken, no run made, and the instance's initial bits.
 // Refuses by line 1; the state is then all zeros.
 pub fn init(instance: u32) -> Reply
     ensures { λ r. ⌜ resultOf r ≡ initResult instance ⌝ }
@@ -49,7 +49,7 @@ pub fn init(instance: u32) -> Reply
 }
 
 // Document 01's piece: takes the first `count` bits of the bytes into an absorbing state. P takes `width` steps together.
-// Refuses by lines 1, 2, 3, 4, 6 and 7, in this order; the state then comes back as handed in.
+// Refuses by lines 1, 2, 3, 4, 6 and 7, in this order; the state is then the one that was given.
 pub fn absorb(state: State, width: u32, bytes: &[u8], count: usize) -> Reply
     ensures { λ r. ⌜ resultOf r ≡ absorbResult state width (now (bytes .entry)) count ⌝ }
 {
@@ -61,7 +61,7 @@ pub fn absorb(state: State, width: u32, bytes: &[u8], count: usize) -> Reply
 }
 
 // Document 01's finish: pads, writes the digest into the buffer and closes the state.
-// Refuses by lines 1, 2, 3, 4, 5 and 8, in this order; the state then comes back as handed in, and the buffer is untouched.
+// Refuses by lines 1, 2, 3, 4, 5 and 8, in this order; the state is then the one that was given, and the buffer is untouched.
 pub fn finish(state: State, width: u32, buffer: &mut [u8]) -> Reply
     ensures reply { λ r. ⌜ resultOf r ≡ finishResult state width (length (now (buffer .entry))) ⌝ }
     ensures bytes { λ _. ⌜ now (buffer .exit) ≡ finishBytes state width (now (buffer .entry)) ⌝ }

@@ -1,5 +1,5 @@
-// The lines of document 01, "Turned back, in checking order", that read a state, a count or a total, and the order of the lines in each
-// operation. Lines 1 and 4 are the permutation's, and the number of line 5 is in `refusals`.
+// The lines (docs/RULES.md) that read a state, a count or a total, and the order of the lines in each operation. Lines 1 and 4 are the
+// permutation's, and the number of line 5 is in `refusals`.
 ghost use mathlib.Core.Path.{_≡_};
 ghost use Rattle.sponge.specs.Outcomes.{line6, line7, line8, absorbNumber, finishNumber, digestNumber};
 use crate::State;
@@ -15,19 +15,19 @@ use permutation::lines::state_bytes;
 use refusals::lines::WRONG_LENGTH;
 use refusals::lines::first;
 
-// 2. A state is not sound, or its phase is not 0 or 1.
+// 2. The state is not sound.
 const UNSOUND_STATE: u32 = 2;
 
-// 3. A piece or finish comes to a closed state.
+// 3. The state is closed and takes nothing more.
 const CLOSED_STATE: u32 = 3;
 
-// 6. A piece's count is over 8 times its bytes.
+// 6. There are fewer bits than the count says.
 const COUNT_OVER_BYTES: u32 = 6;
 
-// 7. A total would pass 16,777,215.
+// 7. The message would have more than 16,777,215 bits.
 const TOTAL_OVER_LIMIT: u32 = 7;
 
-// 8. A finish's padded length is no multiple of r.
+// 8. The padded message does not end with a whole block.
 const PADDED_LENGTH: u32 = 8;
 
 // Line 6. 8 times the bytes is worked out only where it does not pass the count, so it cannot wrap.

@@ -26,7 +26,7 @@ fn put(buffer: &mut [u8], at: usize, part: &[u8])
     }
 }
 
-// Hands the last r/8 bytes of the state's b/8 bytes, the part that starts at (b - r)/8, on to the digest writer.
+// One block for the digest writer: the part of the state's bytes from (b - r)/8 on, r/8 of them.
 fn give(state: State, buffer: &mut [u8], at: usize)
     requires { ⌜ at + instanceOf (state .instance) .r / 8 ≤ length (now buffer) ⌝ }
     ensures { λ _. ⌜ now (buffer .exit)
@@ -39,7 +39,7 @@ fn give(state: State, buffer: &mut [u8], at: usize)
     put(buffer, at, &bits[from..end]);
 }
 
-// Gives out `count` blocks: for each of them P runs, and the last r bits are written. Answers the state after the last run.
+// Gives out `count` blocks, with a run of P before each. Answers the state after the last run.
 fn give_blocks(state: State, width: u32, count: usize, buffer: &mut [u8]) -> State
     requires { ⌜ Ready state width × (length (now buffer) ≡ count * (instanceOf (state .instance) .r / 8)) × (state .runs + count ≤ 4294967295) ⌝ }
     ensures left { λ r. ⌜ r ≡ withSponge state (squeezed (instanceOf (state .instance)) count (contentOf state .sponge)) ⌝ }

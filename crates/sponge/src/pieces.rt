@@ -45,7 +45,7 @@ pub fn run_p(state: State, width: u32) -> State
     next
 }
 
-// Takes a bit: it is added at its index, the total grows by one, and P runs where the total reaches a multiple of r.
+// Takes one bit: adds it at its index and counts it. Where it is the last of its block, P runs.
 fn take_bit(state: State, width: u32, bit: u8) -> State
     requires { ⌜ Ready state width × (bit < 2) × (state .total < limit) × RunsOfTotal state ⌝ }
     ensures { λ r. ⌜ r ≡ stateWith (state .instance) (state .phase) (takeBit (instanceOf (state .instance)) (contentOf state) bit) ⌝ }

@@ -10,11 +10,11 @@ use Rattle.sponge.specs.declared.State.{State}
 use Rattle.sponge.specs.Taking.{holding}
 use Rattle.sponge.specs.Soundness.{restZero, contentOf, stateWith}
 
--- the bytes from b/8 on are zero
+-- nothing but zeros after the first b/8 bytes
 abbrev pub ZeroPast : State → Type 0
 ZeroPast s = restZero s ≡ true
 
--- P can run on a state: it is of an instance, the step width is that instance's, and the bytes from b/8 on are zero
+-- P can run on a state: it is of an instance, the step width is that instance's, and its unused bytes are zero
 pub record Ready (s : State) (w : ℕ) : Type 0 where
   pub is-instance : isInstance (s .instance) ≡ true
   pub width : isWidth (s .instance) w ≡ true

@@ -9,7 +9,7 @@ use lib.ListN.{length, take, drop}
 use lib.Seq.{length-take-le}
 use Rattle.quark.specs.Sponge.{runP}
 use Rattle.quark.specs.Step.{P}
-use Rattle.quark.specs.Instance.{instanceOf, stateBytes}
+use Rattle.quark.specs.Instance.{instanceOf, isWidth, stateBytes}
 use Rattle.quark.proofs.Instance.{in-bytes}
 use Rattle.permutation.specs.Permute.{onBytes}
 use Rattle.sponge.specs.Soundness.{contentOf}
@@ -42,7 +42,7 @@ add-next : tie.Need-add-next
 add-next c = omega (arith, c .before .before .before .before .before .before .pre .1)
 
 returns : tie.Need-returns
-unfolding runP contentOf
+unfolding runP contentOf isWidth
 returns c =
     let start = c .before .before .before .before .before .before in
     let s = start .args .state in
@@ -53,7 +53,7 @@ returns c =
     length-take-le (size .result) (s .bits) (front (c .before .before .before .before .before)) ∙ size .ensures in
     with-sponge s (runP (instanceOf (s .instance)) (contentOf s .sponge)) (add-one (s .runs))
     (ap (λ (l : List ℕ). l ++ drop (size .result) (s .bits))
-    (c .before .before .permute .ensures .1 ∙ permute-accepted (s .instance) (start .args .width) (take (size .result) (s .bits)) (ready .is-instance) (ready .width) m)
+    (c .before .before .permute .ensures .1 ∙ permute-accepted (s .instance) _ (take (size .result) (s .bits)) (ready .is-instance) (search ready) m)
     ∙ ap (λ (k : ℕ). onBytes P (s .instance) (take k (s .bits)) ++ drop k (s .bits)) (size .ensures)
     ∙ bytes-permuted (s .instance) (s .bits) n (ready .zero-past))
 

@@ -1,5 +1,6 @@
 -- `bit_index` meets its contract: it is below b, so nothing wraps.
-use Prim.Native.Nat.{_<_}
+use mathlib.Core.Path.{ap}
+use Prim.Native.Nat.{ℕ, _%_, _<_}
 use native.Mathlib.Nat.{mod-lt}
 use native.Mathlib.Omega.{arith}
 use Rattle.quark.proofs.Instance.{in-bytes, regular}
@@ -29,7 +30,9 @@ add-result c =
 
 returns : tie.Need-returns
 unfolding bitIndex
-returns c = cc (whole-front (c .before .before .args .instance))
+returns c =
+    let a = c .before .before .args in
+    omega (arith, whole-front (a .instance), c .before .last-block .ensures, ap (λ (r : ℕ). a .total % r) (c .rate .ensures))
 
 pub bit-index-spec : {M : Type 1} → statement M
 bit-index-spec = tie.close (tie.spec (λ c κs. tt) mul-result (λ c κs. tt) rem-result add-result returns)
