@@ -41,9 +41,7 @@ module _ (I : Instance) where
 
   pub length-parts : (m : List ℕ) → length (pad I m) ≡ length m + 1 + (I .r - 1 - length m % I .r)
   unfolding pad
-  length-parts m =
-      let z = I .r - 1 - length m % I .r in
-      length-append m (1 ∷ replicate z 0) ∙ ap (λ (k : ℕ). length m + suc k) (length-replicate z 0) ∙ omega arith
+  length-parts m = simp (length-append, length-replicate) (omega arith)
 
   -- ---- for every total of bits, from the count of zeros alone
 

@@ -10,17 +10,21 @@ use Rattle.quark.specs.Inverse.{unshift, gained, undoStepL, undoStep}
 use Rattle.quark.specs.Instance.{Instance, U, D, S}
 use Rattle.quark.specs.Sponge.{pad, blockCount}
 
--- every bit of a register is v
-abbrev all : ℕ → ℕ → ℕ
-all v i = v
+-- the bits of an instance's register whose bits are all 1
+abbrev ones : Instance → ℕ → ℕ
+ones I = bit (replicate (I .taps .half) 1)
 
 -- only bit k is 1
-abbrev pub only : ℕ → ℕ → ℕ
-only k i = bit (set (replicate 128 0) k 1) i
+abbrev pub only : Instance → ℕ → ℕ → ℕ
+only I k = bit (set (replicate (I .taps .half) 0) k 1)
 
 -- only bits j and k are 1
-abbrev pub onlyTwo : ℕ → ℕ → ℕ → ℕ
-onlyTwo j k i = bit (set (set (replicate 128 0) j 1) k 1) i
+abbrev pub onlyTwo : Instance → ℕ → ℕ → ℕ → ℕ
+onlyTwo I j k = bit (set (set (replicate (I .taps .half) 0) j 1) k 1)
+
+-- the ten bits of an L with L0 = v; its other bits are 1
+abbrev withL0 : ℕ → ℕ → ℕ
+withL0 v = bit (v ∷ replicate 9 1)
 
 -- U's registers: all zero, with L all ones
 abbrev zeros : Registers
@@ -31,15 +35,15 @@ blocks I bits = blockCount I (replicate bits 0)
 
 pub starred :
     -- f and g on all ones: 0
-    (f (U .taps) (all 1) ≡ 0) × (g (U .taps) (all 1) ≡ 0)
-    × (f (D .taps) (all 1) ≡ 0) × (g (D .taps) (all 1) ≡ 0)
-    × (f (S .taps) (all 1) ≡ 0) × (g (S .taps) (all 1) ≡ 0)
+    (f (U .taps) (ones U) ≡ 0) × (g (U .taps) (ones U) ≡ 0)
+    × (f (D .taps) (ones D) ≡ 0) × (g (D .taps) (ones D) ≡ 0)
+    × (f (S .taps) (ones S) ≡ 0) × (g (S .taps) (ones S) ≡ 0)
     -- U, f with only X15: 0; only X14: 1; X9 and X15: 0
-    × (f (U .taps) (only 15) ≡ 0) × (f (U .taps) (only 14) ≡ 1) × (f (U .taps) (onlyTwo 9 15) ≡ 0)
+    × (f (U .taps) (only U 15) ≡ 0) × (f (U .taps) (only U 14) ≡ 1) × (f (U .taps) (onlyTwo U 9 15) ≡ 0)
     -- h on all ones, L0 = 1 then 0: U 0, 1; D 1, 0; S 0, 1
-    × (h (U .taps) (all 1) (all 1) (all 1) ≡ 0) × (h (U .taps) (all 1) (all 1) (all 0) ≡ 1)
-    × (h (D .taps) (all 1) (all 1) (all 1) ≡ 1) × (h (D .taps) (all 1) (all 1) (all 0) ≡ 0)
-    × (h (S .taps) (all 1) (all 1) (all 1) ≡ 0) × (h (S .taps) (all 1) (all 1) (all 0) ≡ 1)
+    × (h (U .taps) (ones U) (ones U) (withL0 1) ≡ 0) × (h (U .taps) (ones U) (ones U) (withL0 0) ≡ 1)
+    × (h (D .taps) (ones D) (ones D) (withL0 1) ≡ 1) × (h (D .taps) (ones D) (ones D) (withL0 0) ≡ 0)
+    × (h (S .taps) (ones S) (ones S) (withL0 1) ≡ 0) × (h (S .taps) (ones S) (ones S) (withL0 0) ≡ 1)
     -- all-zero U, L all ones, one step: only X67 and Y67 are 1, L is 1111111110; undone, it is the start
     × (step (U .taps) zeros ≡ record {
       X = set (replicate 68 0) 67 1;
