@@ -4,8 +4,8 @@
 ghost use mathlib.Core.Path.{_≡_};
 ghost use Prim.Native.Nat.{_+_, _*_, _%_, _^_, _≤_, _<_};
 ghost use Rattle.quark.specs.Instance.{U, D, S, instanceOf};
-ghost use Rattle.words.specs.Words.{value, Fitting, Stepped};
-ghost use Rattle.words.specs.leaf.Groups.{Width, WidthOf, AfterGroup};
+ghost use Rattle.words.specs.Words.{value};
+ghost use Rattle.words.specs.leaf.Groups.{Width, WidthOf, Fitting, Stepped, AfterGroup};
 use crate::Register;
 use crate::RegisterWords;
 use crate::feedback::StepBits;

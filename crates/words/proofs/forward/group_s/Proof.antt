@@ -6,7 +6,7 @@ use native.Mathlib.Omega.{arith}
 use borrow.Author.Needs.{needs}
 use lib.Dec.{lit<, lit≤}
 use Rattle.quark.specs.Instance.{S}
-use Rattle.words.specs.Words.{Stepped}
+use Rattle.words.specs.leaf.Groups.{Stepped}
 use Rattle.words.proofs.Gained.{grouping-S-8, grouping-S-16}
 use Rattle.words.proofs.GroupForward.{group-steps}
 use Rattle.words.proofs.Groups.{L-composes}
