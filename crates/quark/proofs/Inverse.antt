@@ -217,10 +217,10 @@ module _ (T : Taps) (lawful : Lawful T) where
 
   -- n steps from any L of ten bits, undone with L's bits
   module _ (n : ℕ) (s : List ℕ) (w : Wide (2 * T .half) s) (l : List ℕ) (wl : Wide 10 l) where
-    wide-run : Wide (2 * T .half) (stored (steps T n (loaded T s l)))
+    pub wide-run : Wide (2 * T .half) (stored (steps T n (loaded T s l)))
     wide-run = wide-stored (steps T n (loaded T s l)) (sized-steps n (loaded T s l) (sized-loaded s l w wl))
 
-    wide-undone : Wide (2 * T .half) (stored (undoSteps T n (loaded T s l)))
+    pub wide-undone : Wide (2 * T .half) (stored (undoSteps T n (loaded T s l)))
     wide-undone = wide-stored (undoSteps T n (loaded T s l)) (sized-undoSteps n (loaded T s l) (sized-loaded s l w wl))
 
     undo-run : stored (undoSteps T n (loaded T (stored (steps T n (loaded T s l))) (stepsL n l))) ≡ s
