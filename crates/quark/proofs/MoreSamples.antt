@@ -31,7 +31,7 @@ pub more :
     × (pad U [] ≡ 1 ∷ 0 ∷ 0 ∷ 0 ∷ 0 ∷ 0 ∷ 0 ∷ 0 ∷ [])
     × (pad U (replicate 7 0) ≡ 0 ∷ 0 ∷ 0 ∷ 0 ∷ 0 ∷ 0 ∷ 0 ∷ 1 ∷ [])
     × (pad U (replicate 8 0) ≡ 0 ∷ 0 ∷ 0 ∷ 0 ∷ 0 ∷ 0 ∷ 0 ∷ 0 ∷ 1 ∷ 0 ∷ 0 ∷ 0 ∷ 0 ∷ 0 ∷ 0 ∷ 0 ∷ [])
-    -- a block is added to the last r bits of a state, and the last r bits are given out
+    -- bits are added from place b - r of a state on, and given out from there
     × (addLast U (replicate 136 0) (1 ∷ 1 ∷ []) ≡ set (set (replicate 136 0) 128 1) 129 1)
     × (output U 1 (record { bits = set (replicate 136 0) 128 1; runs = 0 }) ≡ 1 ∷ replicate 7 0)
 unfolding g feedback exchange tabulate bitAt bitsOf byteAt bytesOf rounds U D S pad sum addLast squeezed output

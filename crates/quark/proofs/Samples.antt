@@ -1,4 +1,4 @@
--- The starred lines of document 01, "Sample values": one list of facts about the definition, proved together by computation.
+-- What document 01 stars under "Sample values": one theorem about the definition, by computation.
 use mathlib.Core.List.{[], _∷_}
 use mathlib.Core.Path.{_≡_, refl}
 use Prim.Native.Nat.{ℕ}
@@ -34,26 +34,26 @@ abbrev blocks : Instance → ℕ → ℕ
 blocks I bits = blockCount I (replicate bits 0)
 
 pub starred :
-    -- f and g on all ones: 0
+    -- f and g are 0 where every bit is 1
     (f (U .taps) (ones U) ≡ 0) × (g (U .taps) (ones U) ≡ 0)
     × (f (D .taps) (ones D) ≡ 0) × (g (D .taps) (ones D) ≡ 0)
     × (f (S .taps) (ones S) ≡ 0) × (g (S .taps) (ones S) ≡ 0)
-    -- U, f with only X15: 0; only X14: 1; X9 and X15: 0
+    -- f of U: X15 (a3) alone adds nothing, X14 (a2) does, and X9 and X15 together add their product too
     × (f (U .taps) (only U 15) ≡ 0) × (f (U .taps) (only U 14) ≡ 1) × (f (U .taps) (onlyTwo U 9 15) ≡ 0)
-    -- h on all ones, L0 = 1 then 0: U 0, 1; D 1, 0; S 0, 1
+    -- h where every bit of X and Y is 1, by L0
     × (h (U .taps) (ones U) (ones U) (withL0 1) ≡ 0) × (h (U .taps) (ones U) (ones U) (withL0 0) ≡ 1)
     × (h (D .taps) (ones D) (ones D) (withL0 1) ≡ 1) × (h (D .taps) (ones D) (ones D) (withL0 0) ≡ 0)
     × (h (S .taps) (ones S) (ones S) (withL0 1) ≡ 0) × (h (S .taps) (ones S) (ones S) (withL0 0) ≡ 1)
-    -- all-zero U, L all ones, one step: only X67 and Y67 are 1, L is 1111111110; undone, it is the start
+    -- one step of U from zeros, with an L of ones, sets the last bits of X and Y and clears that of L; undone, it leads back
     × (step (U .taps) zeros ≡ record {
       X = set (replicate 68 0) 67 1;
       Y = set (replicate 68 0) 67 1;
       L = 1 ∷ 1 ∷ 1 ∷ 1 ∷ 1 ∷ 1 ∷ 1 ∷ 1 ∷ 1 ∷ 0 ∷ [];
     })
     × (undoStep (U .taps) (step (U .taps) zeros) ≡ zeros)
-    -- L after 10 steps from all ones: 0000000111
+    -- ten steps of L from ones
     × (stepsL 10 allOnes ≡ 0 ∷ 0 ∷ 0 ∷ 0 ∷ 0 ∷ 0 ∷ 0 ∷ 1 ∷ 1 ∷ 1 ∷ [])
-    -- blocks: U 0 bits 1, 7 bits 1, 8 bits 2; D 15 bits 1, 16 bits 2; S 31 bits 1, 32 bits 2
+    -- the blocks of a message that is empty, a bit short of a block, or a full block
     × (blocks U 0 ≡ 1) × (blocks U 7 ≡ 1) × (blocks U 8 ≡ 2)
     × (blocks D 15 ≡ 1) × (blocks D 16 ≡ 2)
     × (blocks S 31 ≡ 1) × (blocks S 32 ≡ 2)
