@@ -1,5 +1,4 @@
 -- The order of the lines of a call on a buffer, by computation: where several hold, the number is the first's.
-use mathlib.Core.Bool.{_&&_, _||_}
 use mathlib.Core.Path.{_≡_, refl}
 use Rattle.refusals.specs.Lines.{firstLine, line5}
 use Rattle.quark.specs.Instance.{U, D, S, instanceOf, isInstance, isWidth, stateBytes}

@@ -7,7 +7,7 @@ use native.Mathlib.Nat.{add-comm, add-mul, add-zero, one-mul, zero-mul, div-add-
 use native.Mathlib.Omega.{arith}
 use Rattle.quark.specs.Feedback.{Taps}
 use Rattle.quark.specs.Inverse.{undoSteps}
-use Rattle.quark.specs.Step.{Registers, steps, stepsL}
+use Rattle.quark.specs.Step.{steps, stepsL}
 use Rattle.quark.specs.Word.{wordBits}
 use Rattle.quark.proofs.Inverse.{undo-steps}
 use Rattle.quark.proofs.Taps.{Lawful}

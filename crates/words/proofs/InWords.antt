@@ -1,7 +1,7 @@
 -- Registers in words, there and back: words that fit are those of the registers that they hold, and registers are held by their own words.
 use mathlib.Core.List.{List}
-use mathlib.Core.Path.{_≡_, ap, ap₂, _∙_}
-use Prim.Native.Nat.{ℕ, _+_, _*_, _/_, _%_, _^_, _<_}
+use mathlib.Core.Path.{_≡_, ap, _∙_}
+use Prim.Native.Nat.{ℕ, _/_, _%_, _^_, _<_}
 use native.Mathlib.Nat.{div-add-mod'}
 use lib.Pow.{high, low}
 use Rattle.quark.specs.Feedback.{Taps}
