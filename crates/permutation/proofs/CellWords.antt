@@ -14,14 +14,16 @@ use Rattle.quark.specs.Instance.{Instance, instanceOf}
 use Rattle.quark.specs.Inverse.{undoSteps}
 use Rattle.quark.specs.Step.{Registers, steps, stepsL, loaded, stored}
 use Rattle.quark.specs.Word.{wordBit, wordBits}
+use Rattle.quark.proofs.Instance.{Regular}
 use Rattle.quark.proofs.Together.{registers-path}
 use Rattle.quark.proofs.Word.{length-wordBits, append-wordBits, cons-wordBits, snoc-wordBits}
 use Rattle.words.specs.declared.Register.{Register}
 use Rattle.words.specs.declared.RegisterWords.{RegisterWords}
-use Rattle.words.specs.Words.{value, wordRegisters, afterL, fits}
+use Rattle.words.specs.Words.{value, wordRegisters, registersOf, wordsAfter, wordsBefore, fits}
 use Rattle.words.proofs.Fits.{fits-tested}
+use Rattle.words.proofs.InWords.{Held, held-after, held-before}
 use Rattle.permutation.specs.leaf.Core.{Steppable, ran, undone, ranOrUndone}
-use Rattle.permutation.specs.leaf.Several.{SteppedOrUndone, written}
+use Rattle.permutation.specs.leaf.Several.{written, ranOrUndoneWords}
 use Rattle.permutation.proofs.Cells.{drop-take}
 
 -- r holds the k bits of s from cell p on
@@ -92,7 +94,7 @@ length-written s p n word h =
     length-append (take p s) (wordBits n word ++ drop (p + n) s) ∙ ap₂ (λ (x y : ℕ). x + y) (length-take-le p s (omega arith)) e ∙ omega arith
 
 -- cells that hold X and then Y, with L beside them, are the registers that the words hold
-pub loaded-words : (T : Taps) (s : List ℕ) (b x y : ℕ) (L : List ℕ) → b ≡ T .half + T .half → b ≤ length s
+loaded-words : (T : Taps) (s : List ℕ) (b x y : ℕ) (L : List ℕ) → b ≡ T .half + T .half → b ≤ length s
     → wordBits (T .half) x ≡ take (T .half) (drop 0 s) → wordBits (T .half) y ≡ take (T .half) (drop (T .half) s)
     → loaded T (take b s) L ≡ record { X = wordBits (T .half) x; Y = wordBits (T .half) y; L = L }
 unfolding loaded
@@ -101,7 +103,7 @@ loaded-words T s b x y L e h ex ey =
     (ap (λ (n : ℕ). drop (T .half) (take n s)) e ∙ drop-take (T .half) (T .half) s (omega arith) ∙ sym ey) refl
 
 -- the words written to the cells are the registers stored there
-pub stored-words : (T : Taps) (s : List ℕ) (b x y l : ℕ) → b ≡ T .half + T .half → b ≤ length s → x < 2 ^ T .half
+stored-words : (T : Taps) (s : List ℕ) (b x y l : ℕ) → b ≡ T .half + T .half → b ≤ length s → x < 2 ^ T .half
     → written (written s 0 (T .half) x) (T .half) (T .half) y ≡ stored (wordRegisters T x y l) ++ drop b s
 unfolding stored wordRegisters
 stored-words T s b x y l e h less =
@@ -111,25 +113,37 @@ stored-words T s b x y l e h less =
     ∙ ap₂ (λ (r : List ℕ) (n : ℕ). r ++ drop n s) (words-append half half y x less) (zero-add (half + half) ∙ sym e)
 
 -- words that were loaded from cells, taken n steps or n steps back, and written back
-module _ (I : Instance) (s : List ℕ) (e : I .b ≡ I .taps .half + I .taps .half) (long : I .b ≤ length s) (x y : Register) (l n : ℕ) (t : RegisterWords) where
+module _ (I : Instance) (regular : Regular I) (s : List ℕ) (long : I .b ≤ length s) (x y : Register) (l n : ℕ) where
+  halves : I .b ≡ I .taps .half + I .taps .half
+  halves = omega (arith, regular .two-halves)
+
+  abbrev start : RegisterWords
+  start = record { x = x; y = y; l = l }
+
+  -- words that hold registers, written to the cells
+  written-held : (t : RegisterWords) (q : Registers) → Held (I .taps) t q
+      → written (written s 0 (I .taps .half) (value (t .x))) (I .taps .half) (I .taps .half) (value (t .y)) ≡ stored q ++ drop (I .b) s
+  written-held t q held =
+      stored-words (I .taps) s (I .b) (value (t .x)) (value (t .y)) (t .l) halves long (held .1 .fitsX)
+      ∙ ap (λ (r : Registers). stored r ++ drop (I .b) s) (held .0)
+
   on-halves : (inverse : Bool) → Holds s (I .taps .half) 0 (value x) → Holds s (I .taps .half) (I .taps .half) (value y)
-      → SteppedOrUndone inverse (I .taps) n x y l t
-      → written (written s 0 (I .taps .half) (value (t .x))) (I .taps .half) (I .taps .half) (value (t .y)) ≡ ranOrUndone inverse I l n s
-  unfolding ranOrUndone ran undone wordRegisters afterL
-  on-halves false hx hy a =
-      stored-words (I .taps) s (I .b) (value (t .x)) (value (t .y)) (t .l) e long (a .fitting .fitsX)
-      ∙ ap (λ (r : Registers). stored r ++ drop (I .b) s)
-      (a .stepped ∙ ap (steps (I .taps) n) (sym (loaded-words (I .taps) s (I .b) (value x) (value y) (wordBits 10 l) e long (hx .1) (hy .1))))
-  on-halves true hx hy a =
-      stored-words (I .taps) s (I .b) (value (t .x)) (value (t .y)) (t .l) e long (a .fitting .fitsX)
-      ∙ ap (λ (r : Registers). stored r ++ drop (I .b) s)
-      (a .undone
-      ∙ ap (undoSteps (I .taps) n) (sym (loaded-words (I .taps) s (I .b) (value x) (value y) (stepsL n (wordBits 10 l)) e long (hx .1) (hy .1))))
+      → let t = ranOrUndoneWords inverse (I .taps) n start in
+      written (written s 0 (I .taps .half) (value (t .x))) (I .taps .half) (I .taps .half) (value (t .y)) ≡ ranOrUndone inverse I l n s
+  unfolding ranOrUndone ran undone wordRegisters ranOrUndoneWords
+  on-halves false hx hy =
+      written-held (wordsAfter (I .taps) n start) (steps (I .taps) n (registersOf (I .taps) start)) (held-after (I .taps) (regular .lawful) n start)
+      ∙ ap (λ (r : Registers). stored (steps (I .taps) n r) ++ drop (I .b) s)
+      (sym (loaded-words (I .taps) s (I .b) (value x) (value y) (wordBits 10 l) halves long (hx .1) (hy .1)))
+  on-halves true hx hy =
+      written-held (wordsBefore (I .taps) n start) _ (held-before (I .taps) (regular .lawful) n start)
+      ∙ ap (λ (r : Registers). stored (undoSteps (I .taps) n r) ++ drop (I .b) s)
+      (sym (loaded-words (I .taps) s (I .b) (value x) (value y) (stepsL n (wordBits 10 l)) halves long (hx .1) (hy .1)))
 
   pub ran-or-undone-words : (inverse : Bool) (half : ℕ) → half ≡ I .taps .half → Holds s half 0 (value x) → Holds s half half (value y)
-      → SteppedOrUndone inverse (I .taps) n x y l t
-      → written (written s 0 half (value (t .x))) half half (value (t .y)) ≡ ranOrUndone inverse I l n s
-  ran-or-undone-words inverse half eh hx hy a = rw eh (on-halves inverse (rw eh at hx) (rw eh at hy) a)
+      → let t = ranOrUndoneWords inverse (I .taps) n start in
+      written (written s 0 half (value (t .x))) half half (value (t .y)) ≡ ranOrUndone inverse I l n s
+  ran-or-undone-words inverse half eh hx hy = rw eh (on-halves inverse (rw eh at hx) (rw eh at hy))
 
 -- such words, with an L of ten bits, fit
 pub loaded-fit : {i w l n : ℕ} {s : List ℕ} → Steppable i w l n s → (w ≡ 1 → ⊥) → (x y : Register) (half p : ℕ) → half ≡ instanceOf i .taps .half

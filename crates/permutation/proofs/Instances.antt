@@ -6,7 +6,7 @@ use lib.ListN.{length, getD}
 use Rattle.quark.specs.Feedback.{Taps, exchange}
 use Rattle.quark.specs.Instance.{U, D, S, instanceOf}
 use Rattle.quark.proofs.Taps.{all-at, all-left, all-right, Lawful, Reach, reach-less, lawful-U, lawful-D, lawful-S}
-use Rattle.quark.proofs.Feedback.{length-exchange, all-exchange}
+use Rattle.quark.proofs.Feedback.{all-exchange, first-at-zero}
 use Rattle.quark.proofs.Instance.{of-each, regular}
 
 -- every tap that the code reads is below the half
@@ -28,9 +28,9 @@ taps-below T W R =
     let x-products = all-right F (T .hX) (T .xLow ∷ T .xMid ∷ T .xHigh ∷ []) (R .x-within) in
     let y-products = all-right F (T .hY) (T .yLow ∷ T .yHigh ∷ []) (R .y-within) in
     record {
-      f-taps = λ k p. less _ (all-at F (T .fTaps) (R .f-within) k (rw (W .f-count) p));
+      f-taps = λ k p. less _ (all-at F (T .fTaps) (R .f-within) k (rw (W .f .count) p));
       g-taps = λ k p.
-          less _ (all-at F (exchange (T .gTaps)) (all-exchange F (T .gTaps) (W .g-count) (R .g-within)) k (rw (length-exchange, W .g-count) p));
+          less _ (all-at F (exchange (T .gTaps)) (all-exchange F (T .gTaps) (W .g .count) (R .g-within)) k (rw (first-at-zero (T .gTaps) (W .g) .count) p));
       h-x = λ k p. less _ (all-at F (T .hX) (all-left F (T .hX) (T .xLow ∷ T .xMid ∷ T .xHigh ∷ []) (R .x-within)) k p);
       h-y = λ k p. less _ (all-at F (T .hY) (all-left F (T .hY) (T .yLow ∷ T .yHigh ∷ []) (R .y-within)) k p);
       y-low = less _ (y-products .0);

@@ -1,4 +1,5 @@
 -- The laws that the proofs of this crate cite.
+pub mod Samples
 pub mod Instances
 pub mod SingleBits
 pub mod Tabulate

@@ -7,13 +7,15 @@ use native.Mathlib.Omega.{arith}
 use lib.ListN.{length, take, drop, replicate, length-append, length-replicate}
 use lib.Seq.{take-at, drop-at}
 use Rattle.quark.specs.Bytes.{bitsOf, bytesOf}
-use Rattle.quark.specs.Step.{allOnes, rounds, P}
+use Rattle.quark.specs.Step.{allOnes, stepsL, rounds, P}
 use Rattle.quark.specs.Inverse.{undoP}
 use Rattle.quark.specs.Instance.{Instance, instanceOf, stateBytes}
 use Rattle.quark.specs.Word.{wordBits}
-use Rattle.quark.proofs.Bits.{Wide, bits-at, bits-append, bits-replicate}
+use Rattle.quark.proofs.Bits.{Bits, Wide, bits-at, bits-append, bits-replicate}
 use Rattle.quark.proofs.Bytes.{bytes-front, wide-bitsOf}
 use Rattle.quark.proofs.Instance.{in-bytes, regular, P-wide, undoP-wide}
+use Rattle.quark.proofs.Inverse.{wide-stepsL, wide-run, wide-undone}
+use Rattle.quark.proofs.Word.{wide-wordBits}
 use Rattle.permutation.specs.Permute.{onBytes}
 use Rattle.permutation.specs.leaf.Core.{Cells, ran, undone, ranOrUndone, permuted}
 
@@ -29,6 +31,18 @@ wide-permuted : (inverse : Bool) (i : ℕ) (s : List ℕ) → Wide (instanceOf i
 unfolding permuted
 wide-permuted true i s w = undoP-wide (instanceOf i) (regular i) s w
 wide-permuted false i s w = P-wide (instanceOf i) (regular i) s w
+
+-- what the stepping cores leave of b bits, and of bits after them, are bits, from any L
+module _ (i l n : ℕ) (cells : List ℕ) (w : Wide (instanceOf i .b) (take (instanceOf i .b) cells)) (rest : Bits (drop (instanceOf i .b) cells)) where
+  halves : Wide (2 * instanceOf i .taps .half) (take (instanceOf i .b) cells)
+  halves = subst (λ (k : ℕ). Wide k (take (instanceOf i .b) cells)) (regular i .two-halves) w
+
+  bits-left : (inverse : Bool) → Bits (ranOrUndone inverse (instanceOf i) l n cells)
+  unfolding ranOrUndone ran undone
+  bits-left true =
+      let L = stepsL n (wordBits 10 l) in
+      bits-append (wide-undone (instanceOf i .taps) (regular i .lawful) n _ halves L (wide-stepsL n (wordBits 10 l) (wide-wordBits 10 l)) .1) rest
+  bits-left false = bits-append (wide-run (instanceOf i .taps) (regular i .lawful) n _ halves (wordBits 10 l) (wide-wordBits 10 l) .1) rest
 
 -- bits, and zeros after them
 cells-of : (n z : ℕ) (s : List ℕ) → Wide n s → Cells (s ++ replicate z 0)
@@ -68,6 +82,14 @@ module _ (i : ℕ) (bytes : List ℕ) (n : length bytes ≡ stateBytes i) where
     pub load-cells : Cells before
     load-cells = subst Cells (sym e) loaded-cells
 
+    -- from any L the cores leave single bits
+    pub stepped-cells : (inverse : Bool) (l count : ℕ) (after : List ℕ) → after ≡ ranOrUndone inverse (instanceOf i) l count before → Cells after
+    stepped-cells inverse l count after e′ =
+        subst Cells (sym (e′ ∙ ap (ranOrUndone inverse (instanceOf i) l count) e))
+        (bits-at
+        (bits-left i l count cells (rw (first-cells .0) (wide-bitsOf (instanceOf i .b) bytes))
+        (rw (first-cells .1) (bits-replicate (256 - 8 * length bytes) {v = 0} (omega arith))) inverse))
+
     module _ (inverse : Bool) (count : ℕ) (en : count ≡ rounds (instanceOf i .taps)) (after : List ℕ) (e′ : after ≡ ranOrUndone inverse (instanceOf i) 1023 count before) where
       result : List ℕ
       result = permuted inverse (instanceOf i .taps) (bitsOf (instanceOf i .b) bytes)
@@ -83,9 +105,6 @@ module _ (i : ℕ) (bytes : List ℕ) (n : length bytes ≡ stateBytes i) where
           ∙ ap₂ (λ (n : ℕ) (s : List ℕ). ranOrUndone inverse (instanceOf i) 1023 n s) en e
           ∙ all-rounds inverse (instanceOf i) cells
           ∙ ap₂ (λ (s t : List ℕ). permuted inverse (instanceOf i .taps) s ++ t) (first-cells .0) (first-cells .1)
-
-      pub permuted-cells : Cells after
-      permuted-cells = subst Cells (sym after-is) (cells-of (instanceOf i .b) (256 - 8 * length bytes) result wide-result)
 
       pub permuted-bytes : bytesOf (length bytes) after ≡ onBytes (permuted inverse) i bytes
       unfolding onBytes result

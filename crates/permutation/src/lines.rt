@@ -1,4 +1,4 @@
-// The lines of document 01, "Turned back, in checking order", by which a call on a state's buffer is refused, and their numbers.
+// The lines by which a call on a state's buffer is refused, and their numbers (docs/RULES.md).
 ghost use mathlib.Core.Path.{_≡_};
 ghost use Rattle.quark.specs.Instance.{stateBytes};
 ghost use Rattle.permutation.specs.Permute.{permuteNumber};
@@ -7,10 +7,10 @@ use refusals::lines::first;
 pub use words::instances::is_instance;
 pub use words::instances::is_width;
 
-// 1. An instance is not 1, 2 or 3.
+// 1. No instance has this number.
 pub const UNKNOWN_INSTANCE: u32 = 1;
 
-// 4. A step width is not one of its instance's.
+// 4. The instance has no such step width.
 pub const UNKNOWN_WIDTH: u32 = 4;
 
 // The bytes of an instance's state, and of its digest. (For a number that is no instance's it is S's; line 1 is tested first.)

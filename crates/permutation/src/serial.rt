@@ -244,7 +244,7 @@ pub fn run(bits: &mut [u8; 256], instance: u32, l: u32, count: u32)
     }
 }
 
-// `count` steps undone, from the last to the first. L began at l before the first of them.
+// `count` steps undone, the last of them first. L began at l before the first of them.
 pub fn undo(bits: &mut [u8; 256], instance: u32, l: u32, count: u32)
     requires { ⌜ l < 1024 ⌝ }
     requires { ⌜ length (now bits) ≡ 256 ⌝ }

@@ -1,6 +1,6 @@
 // Several steps together on the 256 cells of single bits (document 01, "Steps, permutation and inverse"): X and Y are taken from them as
 // words, stepped by the crate `words`, and put back. A half is 68, 88 or 128 bits, so that lo is always full.
-ghost use mathlib.Core.Bool.{true};
+ghost use mathlib.Core.Bool.{cond};
 ghost use mathlib.Core.Path.{_≡_};
 ghost use Prim.Native.Nat.{_+_, _%_, _^_, _≤_, _<_};
 ghost use lib.ListN.{length, take, drop};
@@ -8,7 +8,7 @@ ghost use Rattle.quark.specs.Instance.{instanceOf};
 ghost use Rattle.quark.specs.Word.{wordBits};
 ghost use Rattle.words.specs.Words.{value, fits};
 ghost use Rattle.permutation.specs.leaf.Core.{Cells, Steppable, ranOrUndone};
-ghost use Rattle.permutation.specs.leaf.Several.{SteppedOrUndone, written};
+ghost use Rattle.permutation.specs.leaf.Several.{ranOrUndoneWords, written};
 use crate::taps::half_of;
 use words::Register;
 use words::RegisterWords;
@@ -83,7 +83,7 @@ fn run_or_undo_words(
     count: u32,
     state: RegisterWords,
 ) -> RegisterWords
-    ensures { λ r. ⌜ (fits instance width count state ≡ true → SteppedOrUndone inverse (instanceOf instance .taps) count (state .x) (state .y) (state .l) r) ⌝ }
+    ensures { λ r. ⌜ r ≡ cond (fits instance width count state) (ranOrUndoneWords inverse (instanceOf instance .taps) count state) state ⌝ }
 {
     if inverse {
         return words::undo(instance, width, count, state);

@@ -56,24 +56,27 @@ length-bytesOf n s = length-tabulate n (byteAt s)
 
 -- ---- from bits to bytes and back
 
+-- the weight of a bit in its byte
+bit-weight : (bytes : List ℕ) (i : ℕ) → bitAt bytes i ≡ wordBit (getD bytes (i / 8) 0) (7 - i % 8)
+unfolding bitAt wordBit
+bit-weight bytes i = ap (λ (k : ℕ). getD bytes (i / 8) 0 / 2 ^ k % 2) (omega arith)
+
 -- a byte is the number of its eight bits
 pub byte-weighed : (s : List ℕ) (j : ℕ) → byteAt s j ≡ weighed (λ k. bit s (8 * j + k)) 8
 unfolding byteAt weighed
 byte-weighed s j = omega (arith, ap (bit s) (add-zero (8 * j)))
 
-byte-bit : (s : List ℕ) → Bits s → (j k : ℕ) → k < 8 → byteAt s j / 2 ^ (7 - k) % 2 ≡ bit s (8 * j + k)
-unfolding wordBit
+byte-bit : (s : List ℕ) → Bits s → (j k : ℕ) → k < 8 → wordBit (byteAt s j) (7 - k) ≡ bit s (8 * j + k)
 byte-bit s b j k h =
     let a : ℕ → ℕ = λ i. bit s (8 * j + i) in
     let eight : 8 ≡ suc k + (7 - k) = omega arith in
-    ap (λ (x : ℕ). x / 2 ^ (7 - k) % 2) (byte-weighed s j ∙ ap (weighed a) eight) ∙ weighed-bit a (λ i. bits-at b (8 * j + i)) k (7 - k)
+    ap (λ (x : ℕ). wordBit x (7 - k)) (byte-weighed s j ∙ ap (weighed a) eight) ∙ weighed-bit a (λ i. bits-at b (8 * j + i)) k (7 - k)
 
 -- bytes of the same bits
 byte-cong : (s t : List ℕ) (i j : ℕ) → ((k : ℕ) → k < 8 → bit s (8 * i + k) ≡ bit t (8 * j + k)) → byteAt s i ≡ byteAt t j
 byte-cong s t i j e = byte-weighed s i ∙ weighed-cong 8 (λ k. bit s (8 * i + k)) (λ k. bit t (8 * j + k)) e ∙ sym (byte-weighed t j)
 
 pub bits-of-bytes : (n m : ℕ) (s : List ℕ) → n ≤ 8 * m → Wide n s → bitsOf n (bytesOf m s) ≡ s
-unfolding bitAt
 bits-of-bytes n m s fits w =
     ext-getD 0 (bitsOf n (bytesOf m s)) s (wide-bitsOf n (bytesOf m s) .0 ∙ sym (w .0))
     (λ i h. at i (subst (λ (k : ℕ). i < k) (wide-bitsOf n (bytesOf m s) .0) h))
@@ -82,23 +85,25 @@ bits-of-bytes n m s fits w =
     at i h =
         let e : 8 * (i / 8) + i % 8 ≡ i = omega arith in
         getD-bitsOf n (bytesOf m s) i h
-        ∙ ap (λ (x : ℕ). x / 2 ^ (7 - i % 8) % 2) (getD-bytesOf m s (i / 8) (omega arith))
+        ∙ bit-weight (bytesOf m s) i
+        ∙ ap (λ (x : ℕ). wordBit x (7 - i % 8)) (getD-bytesOf m s (i / 8) (omega arith))
         ∙ byte-bit s (w .1) (i / 8) (i % 8) (omega arith)
         ∙ ap (bit s) e
 
 -- ---- from bytes to bits and back
 
 pub bytes-of-bits : (n : ℕ) (bytes : List ℕ) → length bytes ≡ n → ((j : ℕ) → getD bytes j 0 < 256) → bytesOf n (bitsOf (8 * n) bytes) ≡ bytes
-unfolding bitAt wordBit
 bytes-of-bits n bytes e small =
     ext-getD 0 (bytesOf n (bitsOf (8 * n) bytes)) bytes (length-bytesOf n (bitsOf (8 * n) bytes) ∙ sym e)
     (λ j h. at j (subst (λ (k : ℕ). j < k) (length-bytesOf n (bitsOf (8 * n) bytes)) h))
   where
-    in-byte : (j k : ℕ) → j < n → k < 8 → bit (bitsOf (8 * n) bytes) (8 * j + k) ≡ getD bytes j 0 / 2 ^ (7 - k) % 2
+    in-byte : (j k : ℕ) → j < n → k < 8 → bit (bitsOf (8 * n) bytes) (8 * j + k) ≡ wordBit (getD bytes j 0) (7 - k)
     in-byte j k h g =
         let q : (8 * j + k) / 8 ≡ j = omega arith in
         let r : (8 * j + k) % 8 ≡ k = omega arith in
-        getD-bitsOf (8 * n) bytes (8 * j + k) (omega arith) ∙ ap₂ (λ (x y : ℕ). getD bytes x 0 / 2 ^ (7 - y) % 2) q r
+        getD-bitsOf (8 * n) bytes (8 * j + k) (omega arith)
+        ∙ bit-weight bytes (8 * j + k)
+        ∙ ap₂ (λ (x y : ℕ). wordBit (getD bytes x 0) (7 - y)) q r
 
     at : (j : ℕ) → j < n → getD (bytesOf n (bitsOf (8 * n) bytes)) j 0 ≡ getD bytes j 0
     at j h =

@@ -6,7 +6,7 @@ use native.Mathlib.Nat.{le-of-suc-le-suc}
 use native.Mathlib.Omega.{arith}
 use lib.ListN.{length, getD, set, drop, length-set}
 use Rattle.quark.specs.Feedback.{Taps, feedback, exchange, f, g, sumAt, h}
-use Rattle.quark.proofs.Taps.{All, all-at, all-map, all-set, all-left, all-right, xTaps, yTaps, Lawful, Reach}
+use Rattle.quark.proofs.Taps.{All, all-at, all-map, all-set, all-left, all-right, xTaps, yTaps, FirstAtZero, Lawful, Reach}
 
 -- two registers have the same bits at some taps
 abbrev pub Agree : (X X′ : ℕ → ℕ) → List ℕ → Type 0
@@ -84,11 +84,18 @@ unfolding exchange
 all-exchange F ts n a =
     all-set F (set ts 2 (getD ts 3 0)) 3 (getD ts 2 0) (all-set F ts 2 (getD ts 3 0) a (all-at F ts a 3 (omega arith))) (all-at F ts a 2 (omega arith))
 
-pub others-exchange : (F : ℕ → Type 0) (ts : List ℕ) → length ts ≡ 13 → All F (drop 1 ts) → All F (drop 1 (exchange ts))
+others-exchange : (F : ℕ → Type 0) (ts : List ℕ) → length ts ≡ 13 → All F (drop 1 ts) → All F (drop 1 (exchange ts))
 unfolding exchange
 others-exchange F [] n a = tt
 others-exchange F (t ∷ ts) n a =
     all-set F (set ts 1 (getD ts 2 0)) 2 (getD ts 1 0) (all-set F ts 1 (getD ts 2 0) a (all-at F ts a 2 (omega arith))) (all-at F ts a 1 (omega arith))
+
+pub first-at-zero : (ts : List ℕ) → FirstAtZero ts → FirstAtZero (exchange ts)
+first-at-zero ts a = record {
+  count = length-exchange ts ∙ a .count;
+  first = first-exchange ts ∙ a .first;
+  others = others-exchange (λ t. 0 < t) ts (a .count) (a .others);
+}
 
 module _ (T : Taps) (X X′ Y Y′ L L′ : ℕ → ℕ) where
   pub h-cong : Agree X X′ (xTaps T) → Agree Y Y′ (yTaps T) → L 0 ≡ L′ 0 → h T X Y L ≡ h T X′ Y′ L′
@@ -110,21 +117,19 @@ module _ (T : Taps) (X X′ Y Y′ L L′ : ℕ → ℕ) where
 -- ---- registers that are the same above 0
 
 module _ (X X′ : ℕ → ℕ) (e : (i : ℕ) → 0 < i → X i ≡ X′ i) (z : X′ 0 ≡ 0) where
-  feedback-zero : (ts : List ℕ) → length ts ≡ 13 → getD ts 0 0 ≡ 0 → All (λ t. 0 < t) (drop 1 ts) → feedback ts X ≡ (X 0 + feedback ts X′) % 2
-  feedback-zero ts n first a =
-      rw (← first) (feedback-first ts n X X′ (rw first z) (all-map (λ t. 0 < t) (λ t. X t ≡ X′ t) e (drop 1 ts) a))
+  feedback-zero : (ts : List ℕ) → FirstAtZero ts → feedback ts X ≡ (X 0 + feedback ts X′) % 2
+  feedback-zero ts a =
+      rw (← a .first) (feedback-first ts (a .count) X X′ (rw (a .first) z) (all-map (λ t. 0 < t) (λ t. X t ≡ X′ t) e (drop 1 ts) (a .others)))
 
   module _ (T : Taps) (lawful : Lawful T) where
     -- f and g are the bit 0 and what they are with 0 in its place
     pub f-zero : f T X ≡ (X 0 + f T X′) % 2
     unfolding f
-    f-zero = feedback-zero (T .fTaps) (lawful .f-count) (lawful .f-first) (lawful .f-others)
+    f-zero = feedback-zero (T .fTaps) (lawful .f)
 
     pub g-zero : g T X ≡ (X 0 + g T X′) % 2
     unfolding g
-    g-zero =
-        feedback-zero (exchange (T .gTaps)) (length-exchange (T .gTaps) ∙ lawful .g-count) (first-exchange (T .gTaps) ∙ lawful .g-first)
-        (others-exchange (λ t. 0 < t) (T .gTaps) (lawful .g-count) (lawful .g-others))
+    g-zero = feedback-zero _ (search (lawful .g, first-at-zero))
 
 -- h reads no bit 0 of X and Y
 pub h-zero : (T : Taps) → Lawful T → (X X′ Y Y′ L : ℕ → ℕ) → ((i : ℕ) → 0 < i → X i ≡ X′ i) → ((i : ℕ) → 0 < i → Y i ≡ Y′ i)
@@ -136,17 +141,16 @@ h-zero T lawful X X′ Y Y′ L ex ey =
 -- ---- registers that are the same at every place that the taps reach
 
 module _ (T : Taps) (lawful : Lawful T) (w : ℕ) (reach : Reach T w) (X X′ : ℕ → ℕ) (ex : (i : ℕ) → i + w ≤ T .half → X i ≡ X′ i) where
+  within-local : (ts : List ℕ) → length ts ≡ 13 → All (λ t. t + w ≤ T .half) ts → feedback ts X ≡ feedback ts X′
+  within-local ts n a = feedback-cong ts n X X′ (all-map (λ t. t + w ≤ T .half) (λ t. X t ≡ X′ t) ex ts a)
+
   pub f-local : f T X ≡ f T X′
   unfolding f
-  f-local =
-      feedback-cong (T .fTaps) (lawful .f-count) X X′ (all-map (λ t. t + w ≤ T .half) (λ t. X t ≡ X′ t) ex (T .fTaps) (reach .f-within))
+  f-local = within-local (T .fTaps) (lawful .f .count) (reach .f-within)
 
   pub g-local : g T X ≡ g T X′
   unfolding g
-  g-local =
-      feedback-cong (exchange (T .gTaps)) (length-exchange (T .gTaps) ∙ lawful .g-count) X X′
-      (all-map (λ t. t + w ≤ T .half) (λ t. X t ≡ X′ t) ex (exchange (T .gTaps))
-      (all-exchange (λ t. t + w ≤ T .half) (T .gTaps) (lawful .g-count) (reach .g-within)))
+  g-local = within-local _ (search (lawful .g .count, length-exchange)) (search (reach .g-within, all-exchange, lawful .g .count))
 
   pub h-local : (Y Y′ L L′ : ℕ → ℕ) → ((i : ℕ) → i + w ≤ T .half → Y i ≡ Y′ i) → L 0 ≡ L′ 0 → h T X Y L ≡ h T X′ Y′ L′
   h-local Y Y′ L L′ ey el =

@@ -15,7 +15,7 @@ use Rattle.quark.specs.leaf.Together.{gainX, gainY}
 use Rattle.quark.proofs.Bits.{none, more, Wide, parity-lt, bits-append, bits-take, bits-drop, bits-at, split-last, bits-replicate}
 use Rattle.quark.proofs.Taps.{Lawful}
 use Rattle.quark.proofs.Feedback.{f-zero, g-zero, h-zero}
-use Rattle.quark.proofs.Together.{registers-path, steps-L}
+use Rattle.quark.proofs.Together.{registers-path, steps-L, step-gains}
 
 -- ---- a register that has gained a bit
 
@@ -43,7 +43,7 @@ undo-L [] w = absurd (let n = w .0 in omega arith)
 undo-L (a ∷ t) w =
     let n : suc (length t) ≡ 10 = w .0 in
     let small : a < 2 = bits-at (w .1) 0 in
-    let v : ℕ = (a + bit t 2) % 2 in
+    let v = p (bit (a ∷ t)) in
     let third : bit (t ++ (v ∷ [])) 2 ≡ bit t 2 = List·getD-append t (v ∷ []) 0 2 (omega arith) in
     let last : gained (t ++ (v ∷ [])) ≡ v = gained-snoc t v in
     ap₂ (λ (x : ℕ) (r : List ℕ). x ∷ r) (omega arith) (front-snoc t v)
@@ -69,7 +69,7 @@ wide-unshift n r v some small w = (simp length-take (let e = w .0 in omega arith
 
 pub wide-stepL : (l : List ℕ) → Wide 10 l → Wide 10 (stepL l)
 unfolding stepL p
-wide-stepL l w = wide-shift 10 l ((bit l 0 + bit l 3) % 2) (omega arith) (parity-lt (bit l 0 + bit l 3)) w
+wide-stepL l w = wide-shift 10 l _ (omega arith) (parity-lt _) w
 
 wide-ones : Wide 10 allOnes
 unfolding allOnes
@@ -82,30 +82,6 @@ wide-stepsL (suc n) l w = wide-stepL (stepsL n l) (wide-stepsL n l w)
 
 -- ---- one step
 
--- a bit comes back out of a sum of bits when the other summands are added once more
-sum-back : (v a b c : ℕ) → v < 2 → ((a + (v + b) % 2 + c) % 2 + a + b + c) % 2 ≡ v
-sum-back v a b c small = omega arith
-
-sum-back₂ : (v b c : ℕ) → v < 2 → (((v + b) % 2 + c) % 2 + b + c) % 2 ≡ v
-sum-back₂ v b c small = omega arith
-
--- the registers before a step, from what it left: X's and Y's bits but the new ones, the new ones, and L before
-before : Taps → (tx : List ℕ) (vx : ℕ) (ty : List ℕ) (vy : ℕ) (l : List ℕ) → Registers
-before T tx vx ty vy l =
-    let X = bit (0 ∷ tx) in
-    let Y = bit (0 ∷ ty) in
-    let y0 = (vy + g T Y + h T X Y (bit l)) % 2 in
-    let x0 = (vx + y0 + f T X + h T X Y (bit l)) % 2 in
-    record { X = x0 ∷ tx; Y = y0 ∷ ty; L = l }
-
-undo-before : (T : Taps) (s : Registers) → undoStep T s ≡ before T (front (s .X)) (gained (s .X)) (front (s .Y)) (gained (s .Y)) (undoStepL (s .L))
-unfolding undoStep before unshift front
-undo-before T s = refl
-
-before-cong : (T : Taps) {tx tx′ ty ty′ l l′ : List ℕ} {vx vx′ vy vy′ : ℕ} → tx ≡ tx′ → vx ≡ vx′ → ty ≡ ty′ → vy ≡ vy′ → l ≡ l′
-    → before T tx vx ty vy l ≡ before T tx′ vx′ ty′ vy′ l′
-before-cong T ex vx ey vy el = cc
-
 -- X and Y are half as wide as a state, and L has ten bits
 pub record Sized (T : Taps) (s : Registers) : Type 0 where
   pub wideX : Wide (T .half) (s .X)
@@ -113,34 +89,30 @@ pub record Sized (T : Taps) (s : Registers) : Type 0 where
   pub wideL : Wide 10 (s .L)
 
 module _ (T : Taps) (lawful : Lawful T) where
+  -- what X and Y gain, by the bits that they drop and by f, g and h with 0 for these bits
   module _ (x0 y0 : ℕ) (tx ty : List ℕ) (L : ℕ → ℕ) where
-    f-cons : f T (bit (x0 ∷ tx)) ≡ (x0 + f T (bit (0 ∷ tx))) % 2
-    f-cons = f-zero (bit (x0 ∷ tx)) (bit (0 ∷ tx)) (bit-above x0 0 tx) refl T lawful
-
-    g-cons : g T (bit (y0 ∷ ty)) ≡ (y0 + g T (bit (0 ∷ ty))) % 2
-    g-cons = g-zero (bit (y0 ∷ ty)) (bit (0 ∷ ty)) (bit-above y0 0 ty) refl T lawful
-
     h-cons : h T (bit (x0 ∷ tx)) (bit (y0 ∷ ty)) L ≡ h T (bit (0 ∷ tx)) (bit (0 ∷ ty)) L
     h-cons = h-zero T lawful (bit (x0 ∷ tx)) (bit (0 ∷ tx)) (bit (y0 ∷ ty)) (bit (0 ∷ ty)) L (bit-above x0 0 tx) (bit-above y0 0 ty)
 
+    gainX-cons : gainX T (bit (x0 ∷ tx)) (bit (y0 ∷ ty)) L ≡ (x0 + y0 + f T (bit (0 ∷ tx)) + h T (bit (0 ∷ tx)) (bit (0 ∷ ty)) L) % 2
+    unfolding gainX
+    gainX-cons = omega (arith, f-zero (bit (x0 ∷ tx)) (bit (0 ∷ tx)) (bit-above x0 0 tx) refl T lawful, h-cons)
+
+    gainY-cons : gainY T (bit (x0 ∷ tx)) (bit (y0 ∷ ty)) L ≡ (y0 + g T (bit (0 ∷ ty)) + h T (bit (0 ∷ tx)) (bit (0 ∷ ty)) L) % 2
+    unfolding gainY
+    gainY-cons = omega (arith, g-zero (bit (y0 ∷ ty)) (bit (0 ∷ ty)) (bit-above y0 0 ty) refl T lawful, h-cons)
+
   undo-parts : (x0 y0 : ℕ) (tx ty l : List ℕ) → x0 < 2 → y0 < 2 → Wide 10 l
       → undoStep T (step T (record { X = x0 ∷ tx; Y = y0 ∷ ty; L = l })) ≡ record { X = x0 ∷ tx; Y = y0 ∷ ty; L = l }
-  unfolding step shift gainX gainY before
+  unfolding undoStep unshift shift front
   undo-parts x0 y0 tx ty l bx by wl =
-      let s : Registers = record { X = x0 ∷ tx; Y = y0 ∷ ty; L = l } in
-      let ef = f-cons x0 y0 tx ty (bit l) in
-      let eg = g-cons x0 y0 tx ty (bit l) in
-      let eh = h-cons x0 y0 tx ty (bit l) in
-      let f0 = f T (bit (0 ∷ tx)) in
-      let g0 = g T (bit (0 ∷ ty)) in
-      let h0 = h T (bit (0 ∷ tx)) (bit (0 ∷ ty)) (bit l) in
       let vx = gainX T (bit (x0 ∷ tx)) (bit (y0 ∷ ty)) (bit l) in
       let vy = gainY T (bit (x0 ∷ tx)) (bit (y0 ∷ ty)) (bit l) in
-      let dy : (vy + g0 + h0) % 2 ≡ y0 = rw (eg, eh) (sum-back₂ y0 g0 h0 by) in
-      let dx : (vx + (vy + g0 + h0) % 2 + f0 + h0) % 2 ≡ x0 = rw (dy, ef, eh) (sum-back x0 y0 f0 h0 bx) in
-      undo-before T (step T s)
-      ∙ before-cong T (front-snoc tx vx) (gained-snoc tx vx) (front-snoc ty vy) (gained-snoc ty vy) (undo-L l wl)
-      ∙ registers-path (ap (λ (v : ℕ). v ∷ tx) dx) (ap (λ (v : ℕ). v ∷ ty) dy) refl
+      let ex = gainX-cons x0 y0 tx ty (bit l) in
+      let ey = gainY-cons x0 y0 tx ty (bit l) in
+      ap (undoStep T) (step-gains T (record { X = x0 ∷ tx; Y = y0 ∷ ty; L = l }))
+      ∙ rw (front-snoc tx vx, gained-snoc tx vx, front-snoc ty vy, gained-snoc ty vy, undo-L l wl)
+      (registers-path (ap (λ (v : ℕ). v ∷ tx) (omega arith)) (ap (λ (v : ℕ). v ∷ ty) (omega arith)) refl)
 
   -- a step undone is the start
   pub undo-step : (s : Registers) → Sized T s → undoStep T (step T s) ≡ s
@@ -152,31 +124,27 @@ module _ (T : Taps) (lawful : Lawful T) where
       parts (x0 ∷ tx) [] l wx wy wl = absurd (let n = wy .0 in omega (arith, lawful .some-half))
       parts (x0 ∷ tx) (y0 ∷ ty) l wx wy wl = undo-parts x0 y0 tx ty l (bits-at (wx .1) 0) (bits-at (wy .1) 0) wl
 
-  redo-parts : (tx ty l : List ℕ) (vx vy : ℕ) → vx < 2 → vy < 2
-      → step T (before T tx vx ty vy l) ≡ record { X = tx ++ (vx ∷ []); Y = ty ++ (vy ∷ []); L = stepL l }
-  unfolding step shift before
-  redo-parts tx ty l vx vy bx by =
-      let f0 = f T (bit (0 ∷ tx)) in
-      let g0 = g T (bit (0 ∷ ty)) in
-      let h0 = h T (bit (0 ∷ tx)) (bit (0 ∷ ty)) (bit l) in
-      let y0 = (vy + g0 + h0) % 2 in
-      let x0 = (vx + y0 + f0 + h0) % 2 in
-      let ef = f-cons x0 y0 tx ty (bit l) in
-      let eg = g-cons x0 y0 tx ty (bit l) in
-      let eh = h-cons x0 y0 tx ty (bit l) in
-      registers-path (ap (λ (v : ℕ). tx ++ (v ∷ [])) (omega arith)) (ap (λ (v : ℕ). ty ++ (v ∷ [])) (omega arith)) refl
-
   -- an undone step redone is the start
   pub redo-step : (s : Registers) → Sized T s → step T (undoStep T s) ≡ s
-  unfolding front gained
+  unfolding undoStep unshift shift gained
   redo-step s z =
+      let tx = take (length (s .X) - 1) (s .X) in
+      let ty = take (length (s .Y) - 1) (s .Y) in
+      let l = undoStepL (s .L) in
+      -- the bits that come back
+      let x0 = bit (undoStep T s .X) 0 in
+      let y0 = bit (undoStep T s .Y) 0 in
+      let ex = gainX-cons x0 y0 tx ty (bit l) in
+      let ey = gainY-cons x0 y0 tx ty (bit l) in
+      let bx : gained (s .X) < 2 = bits-at (z .wideX .1) (length (s .X) - 1) in
+      let by : gained (s .Y) < 2 = bits-at (z .wideY .1) (length (s .Y) - 1) in
       let nx = z .wideX .0 in
       let ny = z .wideY .0 in
-      ap (step T) (undo-before T s)
-      ∙ redo-parts (front (s .X)) (front (s .Y)) (undoStepL (s .L)) (gained (s .X)) (gained (s .Y)) (bits-at (z .wideX .1) (length (s .X) - 1))
-      (bits-at (z .wideY .1) (length (s .Y) - 1))
-      ∙ registers-path (split-last (length (s .X) - 1) (s .X) (omega (arith, lawful .some-half)))
-      (split-last (length (s .Y) - 1) (s .Y) (omega (arith, lawful .some-half))) (redo-L (s .L) (z .wideL))
+      step-gains T (undoStep T s)
+      ∙ registers-path
+      (ap (λ (v : ℕ). tx ++ (v ∷ [])) (omega arith) ∙ split-last (length (s .X) - 1) (s .X) (omega (arith, lawful .some-half)))
+      (ap (λ (v : ℕ). ty ++ (v ∷ [])) (omega arith) ∙ split-last (length (s .Y) - 1) (s .Y) (omega (arith, lawful .some-half)))
+      (redo-L (s .L) (z .wideL))
 
   -- ---- n steps, there and back, keep lengths and bits
 
@@ -247,41 +215,51 @@ module _ (T : Taps) (lawful : Lawful T) where
   unfolding loaded stored
   stored-loaded s l = take-append-drop (T .half) s
 
+  -- n steps from any L of ten bits, undone with L's bits
+  module _ (n : ℕ) (s : List ℕ) (w : Wide (2 * T .half) s) (l : List ℕ) (wl : Wide 10 l) where
+    pub wide-run : Wide (2 * T .half) (stored (steps T n (loaded T s l)))
+    wide-run = wide-stored (steps T n (loaded T s l)) (sized-steps n (loaded T s l) (sized-loaded s l w wl))
+
+    pub wide-undone : Wide (2 * T .half) (stored (undoSteps T n (loaded T s l)))
+    wide-undone = wide-stored (undoSteps T n (loaded T s l)) (sized-undoSteps n (loaded T s l) (sized-loaded s l w wl))
+
+    undo-run : stored (undoSteps T n (loaded T (stored (steps T n (loaded T s l))) (stepsL n l))) ≡ s
+    unfolding loaded
+    undo-run =
+        let start = loaded T s l in
+        let z = sized-loaded s l w wl in
+        let end = steps T n start in
+        let e : loaded T (stored end) (stepsL n l) ≡ end =
+        ap (loaded T (stored end)) (sym (steps-L T n start)) ∙ loaded-stored end (sized-steps n start z) in
+        ap (λ (q : Registers). stored (undoSteps T n q)) e ∙ ap stored (undo-steps n start z) ∙ stored-loaded s l
+
+    run-undone : stored (steps T n (loaded T (stored (undoSteps T n (loaded T s (stepsL n l)))) l)) ≡ s
+    unfolding loaded
+    run-undone =
+        let end = loaded T s (stepsL n l) in
+        let z = sized-loaded s (stepsL n l) w (wide-stepsL n l wl) in
+        let start = undoSteps T n end in
+        -- L is undone to l, as from any registers that L's steps led to
+        let other = loaded T s l in
+        let same : start .L ≡ l =
+        undoSteps-L n end (steps T n other) (sym (steps-L T n other))
+        ∙ ap (λ (q : Registers). q .L) (undo-steps n other (sized-loaded s l w wl)) in
+        let e : loaded T (stored start) l ≡ start = ap (loaded T (stored start)) (sym same) ∙ loaded-stored start (sized-undoSteps n end z) in
+        ap (λ (q : Registers). stored (steps T n q)) e ∙ ap stored (redo-steps n end z) ∙ stored-loaded s (stepsL n l)
+
   module _ (s : List ℕ) (w : Wide (2 * T .half) s) where
-    pub wide-P : Wide (2 * T .half) (P T s)
-    unfolding P
-    wide-P =
-        wide-stored (steps T (rounds T) (loaded T s allOnes)) (sized-steps (rounds T) (loaded T s allOnes) (sized-loaded s allOnes w wide-ones))
-
-    pub wide-undoP : Wide (2 * T .half) (undoP T s)
-    unfolding undoP
-    wide-undoP =
-        let l = stepsL (rounds T) allOnes in
-        wide-stored (undoSteps T (rounds T) (loaded T s l))
-        (sized-undoSteps (rounds T) (loaded T s l) (sized-loaded s l w (wide-stepsL (rounds T) allOnes wide-ones)))
-
     pub undo-P : undoP T (P T s) ≡ s
-    unfolding P undoP loaded
-    undo-P =
-        let start = loaded T s allOnes in
-        let z = sized-loaded s allOnes w wide-ones in
-        let end = steps T (rounds T) start in
-        let e : loaded T (stored end) (stepsL (rounds T) allOnes) ≡ end =
-        ap (loaded T (stored end)) (sym (steps-L T (rounds T) start)) ∙ loaded-stored end (sized-steps (rounds T) start z) in
-        ap (λ (q : Registers). stored (undoSteps T (rounds T) q)) e ∙ ap stored (undo-steps (rounds T) start z) ∙ stored-loaded s allOnes
+    unfolding P undoP stepsL
+    undo-P = undo-run (rounds T) s w allOnes wide-ones
 
     pub redo-P : P T (undoP T s) ≡ s
-    unfolding P undoP loaded
-    redo-P =
-        let l = stepsL (rounds T) allOnes in
-        let end = loaded T s l in
-        let z = sized-loaded s l w (wide-stepsL (rounds T) allOnes wide-ones) in
-        let start = undoSteps T (rounds T) end in
-        -- L is undone to all ones, as from any registers that L's steps led to
-        let other = loaded T s allOnes in
-        let ones : start .L ≡ allOnes =
-        undoSteps-L (rounds T) end (steps T (rounds T) other) (sym (steps-L T (rounds T) other))
-        ∙ ap (λ (q : Registers). q .L) (undo-steps (rounds T) other (sized-loaded s allOnes w wide-ones)) in
-        let e : loaded T (stored start) allOnes ≡ start =
-        ap (loaded T (stored start)) (sym ones) ∙ loaded-stored start (sized-undoSteps (rounds T) end z) in
-        ap (λ (q : Registers). stored (steps T (rounds T) q)) e ∙ ap stored (redo-steps (rounds T) end z) ∙ stored-loaded s l
+    unfolding P undoP stepsL
+    redo-P = run-undone (rounds T) s w allOnes wide-ones
+
+    pub wide-P : Wide (2 * T .half) (P T s)
+    unfolding P stepsL
+    wide-P = wide-run (rounds T) s w allOnes wide-ones
+
+    pub wide-undoP : Wide (2 * T .half) (undoP T s)
+    unfolding undoP stepsL
+    wide-undoP = wide-undone (rounds T) s w (stepsL (rounds T) allOnes) (wide-stepsL (rounds T) allOnes wide-ones)

@@ -1,4 +1,5 @@
--- The sum of the linear taps is the parity of the ones under a mask (document 01, "Taps and feedback").
+-- The ones of a register under a mask: counted, they are the sum of its bits at the mask's places, and so modulo 2 what linear taps add
+-- (document 01, "Taps and feedback").
 use mathlib.Core.Path.{_≡_, sym, ap, ap₂, _∙_}
 use mathlib.Core.List.{List}
 use Prim.Native.Nat.{ℕ, zero, suc, _+_, _*_, _/_, _%_, _^_, _<_}

@@ -41,9 +41,7 @@ module _ (I : Instance) where
 
   pub length-parts : (m : List ℕ) → length (pad I m) ≡ length m + 1 + (I .r - 1 - length m % I .r)
   unfolding pad
-  length-parts m =
-      let z = I .r - 1 - length m % I .r in
-      length-append m (1 ∷ replicate z 0) ∙ ap (λ (k : ℕ). length m + suc k) (length-replicate z 0) ∙ omega arith
+  length-parts m = simp (length-append, length-replicate) (omega arith)
 
   -- ---- for every total of bits, from the count of zeros alone
 
@@ -51,7 +49,7 @@ module _ (I : Instance) where
     whole-blocks : total + 1 + (I .r - 1 - total % I .r) ≡ (total / I .r + 1) * I .r
     whole-blocks = omega (arith, div-add-mod' total (I .r), mod-lt total some-rate)
 
-    -- a padded length is a multiple of r: line 8 of document 01 never holds
+    -- a padded length is a multiple of r: line 8 never holds
     pub whole-padding : (total + 1 + (I .r - 1 - total % I .r)) % I .r ≡ 0
     whole-padding = ap (λ (k : ℕ). k % I .r) whole-blocks ∙ mul-mod-left (total / I .r + 1) (I .r)
 

@@ -14,7 +14,7 @@ module _ (I : Instance) where
   pub runs-before : (l : List ℕ) (k : ℕ) → before I l k .runs ≡ k
   unfolding before runP absorb
   runs-before l zero = refl
-  runs-before l (suc k) = ap suc (runs-before l k)
+  runs-before l (suc k) = omega (arith, runs-before l k)
 
   pub runs-absorbing : (m : List ℕ) → absorbing I m .runs ≡ length m / I .r
   unfolding absorbing absorb

@@ -1,4 +1,4 @@
--- The starred lines of document 01, "Sample values": one list of facts about the definition, proved together by computation.
+-- What document 01 stars under "Sample values": one theorem about the definition, by computation.
 use mathlib.Core.List.{[], _∷_}
 use mathlib.Core.Path.{_≡_, refl}
 use Prim.Native.Nat.{ℕ}
@@ -10,17 +10,21 @@ use Rattle.quark.specs.Inverse.{unshift, gained, undoStepL, undoStep}
 use Rattle.quark.specs.Instance.{Instance, U, D, S}
 use Rattle.quark.specs.Sponge.{pad, blockCount}
 
--- every bit of a register is v
-abbrev all : ℕ → ℕ → ℕ
-all v i = v
+-- the bits of an instance's register whose bits are all 1
+abbrev ones : Instance → ℕ → ℕ
+ones I = bit (replicate (I .taps .half) 1)
 
 -- only bit k is 1
-abbrev pub only : ℕ → ℕ → ℕ
-only k i = bit (set (replicate 128 0) k 1) i
+abbrev pub only : Instance → ℕ → ℕ → ℕ
+only I k = bit (set (replicate (I .taps .half) 0) k 1)
 
 -- only bits j and k are 1
-abbrev pub onlyTwo : ℕ → ℕ → ℕ → ℕ
-onlyTwo j k i = bit (set (set (replicate 128 0) j 1) k 1) i
+abbrev pub onlyTwo : Instance → ℕ → ℕ → ℕ → ℕ
+onlyTwo I j k = bit (set (set (replicate (I .taps .half) 0) j 1) k 1)
+
+-- the ten bits of an L with L0 = v; its other bits are 1
+abbrev withL0 : ℕ → ℕ → ℕ
+withL0 v = bit (v ∷ replicate 9 1)
 
 -- U's registers: all zero, with L all ones
 abbrev zeros : Registers
@@ -30,26 +34,26 @@ abbrev blocks : Instance → ℕ → ℕ
 blocks I bits = blockCount I (replicate bits 0)
 
 pub starred :
-    -- f and g on all ones: 0
-    (f (U .taps) (all 1) ≡ 0) × (g (U .taps) (all 1) ≡ 0)
-    × (f (D .taps) (all 1) ≡ 0) × (g (D .taps) (all 1) ≡ 0)
-    × (f (S .taps) (all 1) ≡ 0) × (g (S .taps) (all 1) ≡ 0)
-    -- U, f with only X15: 0; only X14: 1; X9 and X15: 0
-    × (f (U .taps) (only 15) ≡ 0) × (f (U .taps) (only 14) ≡ 1) × (f (U .taps) (onlyTwo 9 15) ≡ 0)
-    -- h on all ones, L0 = 1 then 0: U 0, 1; D 1, 0; S 0, 1
-    × (h (U .taps) (all 1) (all 1) (all 1) ≡ 0) × (h (U .taps) (all 1) (all 1) (all 0) ≡ 1)
-    × (h (D .taps) (all 1) (all 1) (all 1) ≡ 1) × (h (D .taps) (all 1) (all 1) (all 0) ≡ 0)
-    × (h (S .taps) (all 1) (all 1) (all 1) ≡ 0) × (h (S .taps) (all 1) (all 1) (all 0) ≡ 1)
-    -- all-zero U, L all ones, one step: only X67 and Y67 are 1, L is 1111111110; undone, it is the start
+    -- f and g are 0 where every bit is 1
+    (f (U .taps) (ones U) ≡ 0) × (g (U .taps) (ones U) ≡ 0)
+    × (f (D .taps) (ones D) ≡ 0) × (g (D .taps) (ones D) ≡ 0)
+    × (f (S .taps) (ones S) ≡ 0) × (g (S .taps) (ones S) ≡ 0)
+    -- f of U: X15 (a3) alone adds nothing, X14 (a2) does, and X9 and X15 together add their product too
+    × (f (U .taps) (only U 15) ≡ 0) × (f (U .taps) (only U 14) ≡ 1) × (f (U .taps) (onlyTwo U 9 15) ≡ 0)
+    -- h where every bit of X and Y is 1, by L0
+    × (h (U .taps) (ones U) (ones U) (withL0 1) ≡ 0) × (h (U .taps) (ones U) (ones U) (withL0 0) ≡ 1)
+    × (h (D .taps) (ones D) (ones D) (withL0 1) ≡ 1) × (h (D .taps) (ones D) (ones D) (withL0 0) ≡ 0)
+    × (h (S .taps) (ones S) (ones S) (withL0 1) ≡ 0) × (h (S .taps) (ones S) (ones S) (withL0 0) ≡ 1)
+    -- one step of U from zeros, with an L of ones, sets the last bits of X and Y and clears that of L; undone, it leads back
     × (step (U .taps) zeros ≡ record {
       X = set (replicate 68 0) 67 1;
       Y = set (replicate 68 0) 67 1;
       L = 1 ∷ 1 ∷ 1 ∷ 1 ∷ 1 ∷ 1 ∷ 1 ∷ 1 ∷ 1 ∷ 0 ∷ [];
     })
     × (undoStep (U .taps) (step (U .taps) zeros) ≡ zeros)
-    -- L after 10 steps from all ones: 0000000111
+    -- ten steps of L from ones
     × (stepsL 10 allOnes ≡ 0 ∷ 0 ∷ 0 ∷ 0 ∷ 0 ∷ 0 ∷ 0 ∷ 1 ∷ 1 ∷ 1 ∷ [])
-    -- blocks: U 0 bits 1, 7 bits 1, 8 bits 2; D 15 bits 1, 16 bits 2; S 31 bits 1, 32 bits 2
+    -- the blocks of a message that is empty, a bit short of a block, or a full block
     × (blocks U 0 ≡ 1) × (blocks U 7 ≡ 1) × (blocks U 8 ≡ 2)
     × (blocks D 15 ≡ 1) × (blocks D 16 ≡ 2)
     × (blocks S 31 ≡ 1) × (blocks S 32 ≡ 2)

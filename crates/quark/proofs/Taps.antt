@@ -49,13 +49,15 @@ xTaps T = T .hX ++ (T .xLow ∷ T .xMid ∷ T .xHigh ∷ [])
 abbrev pub yTaps : Taps → List ℕ
 yTaps T = T .hY ++ (T .yLow ∷ T .yHigh ∷ [])
 
+-- thirteen taps a0 to a12, of which a0 alone is at 0
+pub record FirstAtZero (taps : List ℕ) : Type 0 where
+  pub count : length taps ≡ 13
+  pub first : getD taps 0 0 ≡ 0
+  pub others : All (λ t. 0 < t) (drop 1 taps)
+
 pub record Lawful (T : Taps) : Type 0 where
-  pub f-count : length (T .fTaps) ≡ 13
-  pub g-count : length (T .gTaps) ≡ 13
-  pub f-first : getD (T .fTaps) 0 0 ≡ 0
-  pub g-first : getD (T .gTaps) 0 0 ≡ 0
-  pub f-others : All (λ t. 0 < t) (drop 1 (T .fTaps))
-  pub g-others : All (λ t. 0 < t) (drop 1 (T .gTaps))
+  pub f : FirstAtZero (T .fTaps)
+  pub g : FirstAtZero (T .gTaps)
   pub x-above : All (λ t. 0 < t) (xTaps T)
   pub y-above : All (λ t. 0 < t) (yTaps T)
   pub some-half : 0 < T .half
@@ -123,12 +125,16 @@ tested A w t =
     let up : (s : ℕ) → T (above s) → 0 < s = λ s q. leb→le 1 s q in
     let fits : (s : ℕ) → T (within A w s) → s + w ≤ A .half = λ s q. leb→le (s + w) (A .half) q in (
       record {
-        f-count = eqb→eq (length (A .fTaps)) 13 (c .0);
-        g-count = eqb→eq (length (A .gTaps)) 13 (c .1 .0);
-        f-first = eqb→eq (getD (A .fTaps) 0 0) 0 (c .1 .1 .0);
-        g-first = eqb→eq (getD (A .gTaps) 0 0) 0 (c .1 .1 .1 .0);
-        f-others = all-tested above (λ s. 0 < s) up (drop 1 (A .fTaps)) (c .1 .1 .1 .1 .0);
-        g-others = all-tested above (λ s. 0 < s) up (drop 1 (A .gTaps)) (c .1 .1 .1 .1 .1 .0);
+        f = record {
+          count = eqb→eq (length (A .fTaps)) 13 (c .0);
+          first = eqb→eq (getD (A .fTaps) 0 0) 0 (c .1 .1 .0);
+          others = all-tested above (λ s. 0 < s) up (drop 1 (A .fTaps)) (c .1 .1 .1 .1 .0);
+        };
+        g = record {
+          count = eqb→eq (length (A .gTaps)) 13 (c .1 .0);
+          first = eqb→eq (getD (A .gTaps) 0 0) 0 (c .1 .1 .1 .0);
+          others = all-tested above (λ s. 0 < s) up (drop 1 (A .gTaps)) (c .1 .1 .1 .1 .1 .0);
+        };
         x-above = all-tested above (λ s. 0 < s) up (xTaps A) (c .1 .1 .1 .1 .1 .1 .0);
         y-above = all-tested above (λ s. 0 < s) up (yTaps A) (c .1 .1 .1 .1 .1 .1 .1 .0);
         some-half = up (A .half) (c .1 .1 .1 .1 .1 .1 .1 .1 .0);

@@ -37,6 +37,13 @@ unfolding steps stepsL step
 steps-L T zero s = refl
 steps-L T (suc n) s = ap stepL (steps-L T n s)
 
+-- ---- what the registers gain
+
+pub step-gains : (T : Taps) (s : Registers) → let X = bit (s .X) in let Y = bit (s .Y) in let L = bit (s .L) in
+    step T s ≡ record { X = shift (s .X) (gainX T X Y L); Y = shift (s .Y) (gainY T X Y L); L = stepL (s .L) }
+unfolding step gainX gainY
+step-gains T s = registers-path (ap (shift (s .X)) (omega arith)) (ap (shift (s .Y)) (omega arith)) refl
+
 -- ---- a register that has moved
 
 pub shift-moved : (j : ℕ) (r new : List ℕ) (v : ℕ) → j < length r → shift (drop j r ++ new) v ≡ drop (suc j) r ++ (new ++ (v ∷ []))
@@ -56,7 +63,7 @@ module _ (T : Taps) (lawful : Lawful T) (w : ℕ) (reach : Reach T w) where
   pub width-fits : w ≤ T .half
   width-fits =
       let first : getD (T .fTaps) 0 0 + w ≤ T .half =
-      all-at (λ t. t + w ≤ T .half) (T .fTaps) (reach .f-within) 0 (let n = lawful .f-count in omega arith) in
+      all-at (λ t. t + w ≤ T .half) (T .fTaps) (reach .f-within) 0 (let n = lawful .f .count in omega arith) in
       omega arith
 
   module _ (X X′ Y Y′ L L′ : ℕ → ℕ) (ex : (i : ℕ) → i + w ≤ T .half → X i ≡ X′ i) (ey : (i : ℕ) → i + w ≤ T .half → Y i ≡ Y′ i) (el : L 0 ≡ L′ 0) where
@@ -72,7 +79,7 @@ module _ (T : Taps) (lawful : Lawful T) (w : ℕ) (reach : Reach T w) where
 
   module _ (s : Registers) (nx : length (s .X) ≡ T .half) (ny : length (s .Y) ≡ T .half) where
     one-more : (j : ℕ) → j < w → step T (moved T j s) ≡ moved T (suc j) s
-    unfolding step stepsL moved gains gainX gainY tabulate
+    unfolding stepsL moved gains tabulate
     one-more j less =
         let mx = tabulate j (gains gainX T s) in
         let my = tabulate j (gains gainY T s) in
@@ -82,7 +89,8 @@ module _ (T : Taps) (lawful : Lawful T) (w : ℕ) (reach : Reach T w) where
         let fits = width-fits in
         let ex : (i : ℕ) → i + w ≤ T .half → X i ≡ from j (bit (s .X)) i = λ i q. bit-moved j (s .X) mx i (omega arith) in
         let ey : (i : ℕ) → i + w ≤ T .half → Y i ≡ from j (bit (s .Y)) i = λ i q. bit-moved j (s .Y) my i (omega arith) in
-        registers-path
+        step-gains T (moved T j s)
+        ∙ registers-path
         (shift-moved j (s .X) mx (gainX T X Y L) (omega arith)
         ∙ ap (λ (v : ℕ). drop (suc j) (s .X) ++ (mx ++ (v ∷ []))) (gainX-local X (from j (bit (s .X))) Y (from j (bit (s .Y))) L L ex ey refl))
         (shift-moved j (s .Y) my (gainY T X Y L) (omega arith)

@@ -2,13 +2,13 @@
 use mathlib.Core.Path.{_≡_, refl, sym, ap, ap₂, _∙_}
 use mathlib.Core.List.{List, [], _∷_, _++_}
 use Prim.Native.Nat.{ℕ, zero, suc, _+_, _*_, _-_, _/_, _%_, _^_, _<_, min}
-use native.Mathlib.Nat.{mod-lt, mod-eq-of-lt, zero-lt-suc, zero-min, zero-mul, mul-comm, mul-one, zero-add, suc-add, add-zero, add-comm, mul-add-mod-self-right, div-div-eq-div-mul, div-one, pow-suc, mod-mod, lt-of-le-of-lt, min-le-left, div-lt-iff-lt-mul, le-of-suc-le-suc, not-suc-le-zero}
+use native.Mathlib.Nat.{mod-lt, mod-eq-of-lt, zero-lt-suc, zero-min, zero-mul, mul-comm, mul-one, zero-add, suc-add, add-zero, add-comm, mul-add-mod-self-right, div-div-eq-div-mul, div-one, pow-suc, mod-mod, lt-of-le-of-lt, min-le-left, div-lt-iff-lt-mul, le-of-suc-le-suc, not-suc-le-zero, suc-inj, div-add-mod'}
 use native.Mathlib.Omega.{arith}
 use lib.Arith.{lt-one, digits-div, digits-mod}
 use lib.Pow.{shr-shr, shr-lt, field, mod-mod-pow}
 use lib.Bits.{bitAnd, bitXor, differ, and-step, xor-step, and-shr, xor-shr, block-half, block-odd}
 use lib.ListN.{length, getD, drop}
-use Rattle.quark.specs.Word.{wordBit, wordBits}
+use Rattle.quark.specs.Word.{wordBit, wordBits, wordOf}
 use Rattle.quark.proofs.Bits.{Bits, none, more, Wide, parity-lt}
 
 -- ---- one bit
@@ -145,3 +145,21 @@ cons-wordBits k r b h = ap₂ (λ (x y : ℕ). x ∷ wordBits k y) (digits-mod r
 pub move-wordBits : (w a n m : ℕ) → n < 2 ^ (w + a) → drop w (wordBits (w + a) n) ++ wordBits w m ≡ wordBits (a + w) (m * 2 ^ a + n / 2 ^ w)
 move-wordBits w a n m h =
     ap (λ (l : List ℕ). l ++ wordBits w m) (drop-wordBits w a n) ∙ append-wordBits a w (n / 2 ^ w) m (shr-lt a w (rw add-comm at h))
+
+-- ---- the number of a list of bits
+
+-- a number of k digits is that of its bits
+pub wordOf-bits : (k n : ℕ) → n < 2 ^ k → wordOf (wordBits k n) ≡ n
+unfolding wordBits wordOf
+wordOf-bits zero n h = sym (lt-one h)
+wordOf-bits (suc k) n h = ap (λ (r : ℕ). r * 2 + n % 2) (wordOf-bits k (n / 2) (half-lt k n h)) ∙ div-add-mod' n 2
+
+-- k bits are those of their number, which has k digits
+pub bits-wordOf : (k : ℕ) (bits : List ℕ) → Wide k bits → (wordBits k (wordOf bits) ≡ bits) × (wordOf bits < 2 ^ k)
+unfolding wordBits wordOf
+bits-wordOf zero [] w = (refl, omega arith)
+bits-wordOf zero (b ∷ bits) w = absurd (let n = w .0 in omega arith)
+bits-wordOf (suc k) [] w = absurd (let n = w .0 in omega arith)
+bits-wordOf (suc k) (b ∷ bits) (n, more small rest) =
+    let inner = bits-wordOf k bits (suc-inj n, rest) in
+    (cons-wordBits k (wordOf bits) b small ∙ ap (λ (l : List ℕ). b ∷ l) (inner .0), omega (arith, inner .1, pow-suc 2 k))

@@ -31,14 +31,14 @@ feedback taps X =
     + a 7 * a 8 * a 10 * a 11 * a 12 + a 1 * a 3 * a 4 * a 5 * a 6
     + a 4 * a 5 * a 6 * a 7 * a 8 * a 10) % 2
 
--- the taps with a2 and a3 exchanged
+-- taps in which a2 and a3 have changed places
 unfoldable pub exchange : List ℕ → List ℕ
 exchange taps = set (set taps 2 (getD taps 3 0)) 3 (getD taps 2 0)
 
 unfoldable pub f : Taps → (ℕ → ℕ) → ℕ
 f T X = feedback (T .fTaps) X
 
--- g is f's sum over the Y taps with a2 and a3 exchanged. (For S the paper says "function f", but lists g's taps; g is meant.)
+-- g: f's sum again, over Y's taps, once a2 and a3 have changed places. (Where the paper says f for S's g, its taps are those of g.)
 unfoldable pub g : Taps → (ℕ → ℕ) → ℕ
 g T Y = feedback (exchange (T .gTaps)) Y
 

@@ -1,5 +1,5 @@
--- The inverse of a step, of n steps and of P (document 01, "Steps, permutation and inverse"): the steps are undone from the last to the
--- first with the same L bits.
+-- The inverse of a step, of n steps and of P (document 01, "Steps, permutation and inverse"): the last step is undone first, and each with
+-- the bits that L had in it.
 use mathlib.Core.List.{List, _∷_}
 use Prim.Native.Nat.{ℕ, zero, suc, _+_, _-_, _%_}
 use lib.ListN.{length, take}

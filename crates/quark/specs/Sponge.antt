@@ -22,14 +22,14 @@ module _ (I : Instance) where
   unfoldable pub runP : Counted → Counted
   runP s = record { bits = P (I .taps) (s .bits); runs = suc (s .runs) }
 
-  -- bits are added to the last r bits of a state, in order
+  -- bits are added at the end of a state, the first of them at place b - r
   unfoldable pub addLast : List ℕ → List ℕ → List ℕ
   addLast s ys = take (I .b - I .r) s ++ sum (drop (I .b - I .r) s) ys
 
   unfoldable pub absorb : Counted → List ℕ → Counted
   absorb s ys = record { bits = addLast (s .bits) ys; runs = s .runs }
 
-  -- document 01's padded form: the message, a 1, and as few zeros as reach a multiple of r
+  -- document 01's padded form: a 1 after the message, and then zeros up to the end of a block
   unfoldable pub pad : List ℕ → List ℕ
   pad m = m ++ (1 ∷ replicate (I .r - 1 - length m % I .r) 0)
 
@@ -41,8 +41,7 @@ module _ (I : Instance) where
   unfoldable pub block : List ℕ → ℕ → List ℕ
   block l k = take (I .r) (drop (k * I .r) l)
 
-  -- document 01's state just before block k: from the initial bits, the earlier blocks one after another are added to the last r bits, with P
-  -- after each
+  -- document 01's state just before block k: the initial bits, after each earlier block has been added and P has run
   unfoldable pub before : List ℕ → ℕ → Counted
   before l zero = record { bits = I .initial; runs = 0 }
   before l (suc k) = runP (absorb (before l k) (block l k))

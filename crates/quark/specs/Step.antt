@@ -17,7 +17,7 @@ shift register gained = drop 1 register ++ (gained ∷ [])
 unfoldable pub stepL : List ℕ → List ℕ
 stepL l = shift l (p (bit l))
 
--- one step (3.2.2), all from the old bits. (The paper's index of L's last bit is one too high: L has ten bits.)
+-- one step (3.2.2): every new bit is of the registers before the step. (L has ten bits; where the paper numbers its last 10, 9 is meant.)
 unfoldable pub step : Taps → Registers → Registers
 step T s =
     let X = bit (s .X) in

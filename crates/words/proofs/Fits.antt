@@ -1,6 +1,6 @@
 -- Calls that fit: the test says what the groups need, and the other way round. A register of two words is below 2 ^ (64 + k) where its high
 -- word is below 2 ^ k.
-use mathlib.Core.Bool.{Bool, true, false, not, _&&_, and-eq-true-iff, false≢true}
+use mathlib.Core.Bool.{Bool, true, false, not, cond, _&&_, and-eq-true-iff}
 use mathlib.Core.Path.{_≡_, refl, sym, _∙_, subst}
 use Prim.Native.Nat.{ℕ, _+_, _*_, _%_, _^_, _<_, _≤_}
 use native.Mathlib.Nat.{le-trans, le-add-right, mul-le-mul-right}
@@ -10,8 +10,8 @@ use lib.Dec.{eqb, ltb}
 use lib.Pow.{pow-add}
 use Rattle.quark.specs.Instance.{instanceOf, isInstance, isWidth}
 use Rattle.words.specs.declared.RegisterWords.{RegisterWords}
-use Rattle.words.specs.Words.{value, fits, Fitting}
-use Rattle.words.specs.leaf.Groups.{WidthOf}
+use Rattle.words.specs.Words.{value, fits}
+use Rattle.words.specs.leaf.Groups.{WidthOf, Fitting}
 use Rattle.words.proofs.Widths.{width-fits, some-width, several}
 
 -- ---- the test of a call
@@ -76,13 +76,12 @@ fits-width {i} {w} f = several i w (f .width) (f .more)
 pub fits-some : {i w n : ℕ} {s : RegisterWords} → Fits i w n s → 0 < w
 fits-some {i} {w} f = width-fits w (some-width i w (fits-width f)) .0
 
--- what is promised of a call that fits, and of one that does not
-pub promised : (i w n : ℕ) (s : RegisterWords) {A B : Type 0} → Fits i w n s → A → (fits i w n s ≡ true → A) × (fits i w n s ≡ false → B)
-promised i w n s f a = (λ e. a, λ e. absurd (false≢true (sym e ∙ fits-tested i w n s f)))
+-- what comes back of a call that fits, and of one that does not
+pub fits-answer : (i w n : ℕ) (s : RegisterWords) {r after : RegisterWords} → Fits i w n s → r ≡ after → r ≡ cond (fits i w n s) after s
+fits-answer i w n s f e = rw (fits-tested i w n s f) e
 
-pub promised-else : (i w n : ℕ) (s : RegisterWords) {A B : Type 0} {b : Bool} → b ≡ fits i w n s → not b ≡ true → B
-    → (fits i w n s ≡ true → A) × (fits i w n s ≡ false → B)
-promised-else i w n s {A} {B} {b} e taken a = (λ t. absurd (false≢true (sym (sym e ∙ not-true b taken) ∙ t)), λ t. a)
+pub else-answer : (i w n : ℕ) (s after : RegisterWords) {b : Bool} → b ≡ fits i w n s → not b ≡ true → s ≡ cond (fits i w n s) after s
+else-answer i w n s after {b} e taken = rw (sym e ∙ not-true b taken)
 
 -- ---- a register of two words
 

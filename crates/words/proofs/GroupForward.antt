@@ -18,9 +18,9 @@ use Rattle.words.specs.declared.Register.{Register}
 use Rattle.words.specs.declared.RegisterWords.{RegisterWords}
 use Rattle.words.specs.declared.feedback.StepBits.{StepBits}
 use Rattle.words.specs.declared.masks.Masks.{Masks}
-use Rattle.words.specs.Words.{value, wordRegisters, Fitting, Stepped}
+use Rattle.words.specs.Words.{value, wordRegisters}
 use Rattle.words.specs.leaf.FeedbackWords.{inStep, ProductBits, Masking, maskSum, pack}
-use Rattle.words.specs.leaf.Groups.{SteppedL, AfterGroup}
+use Rattle.words.specs.leaf.Groups.{Fitting, Stepped, SteppedL, AfterGroup}
 use Rattle.words.proofs.FeedbackWords.{FeedbackBits, feedback-bits}
 use Rattle.words.proofs.Gained.{Grouping, gained-x, gained-y}
 use Rattle.words.proofs.LSequence.{Firsts}

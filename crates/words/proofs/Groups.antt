@@ -1,22 +1,21 @@
 -- Groups of steps one after another. Any relation that leads from a to b in n steps and composes leads through all groups: the steps of L,
--- the steps of registers in words, and these undone. The words that are undone are the definition's inverse.
+-- the steps of registers in words, and these undone. The words that come out are those of the definition's steps and of its inverse.
 use mathlib.Core.Logic.{⊎-elim}
 use mathlib.Core.Path.{_≡_, refl, sym, ap, _∙_, subst}
-use Prim.Native.Nat.{ℕ, _+_, _*_, _/_, _%_, _<_}
+use Prim.Native.Nat.{ℕ, _+_, _*_, _/_, _%_, _^_, _<_}
 use native.Mathlib.Nat.{add-comm, add-mul, add-zero, one-mul, zero-mul, div-add-mod'}
 use native.Mathlib.Omega.{arith}
 use Rattle.quark.specs.Feedback.{Taps}
 use Rattle.quark.specs.Inverse.{undoSteps}
-use Rattle.quark.specs.Step.{Registers, steps, stepsL}
+use Rattle.quark.specs.Step.{steps, stepsL}
 use Rattle.quark.specs.Word.{wordBits}
-use Rattle.quark.proofs.Inverse.{Sized, undo-steps}
+use Rattle.quark.proofs.Inverse.{undo-steps}
 use Rattle.quark.proofs.Taps.{Lawful}
 use Rattle.quark.proofs.Together.{registers-path, steps-add, stepsL-add}
-use Rattle.quark.proofs.Word.{wide-wordBits}
-use Rattle.words.specs.declared.Register.{Register}
 use Rattle.words.specs.declared.RegisterWords.{RegisterWords}
-use Rattle.words.specs.Words.{value, wordRegisters, afterL, Fitting, Stepped, Undone}
-use Rattle.words.specs.leaf.Groups.{Width, SteppedL, PrecedingL, Preceding}
+use Rattle.words.specs.Words.{value, wordRegisters, registersOf, inWords, wordsAfter, wordsBefore}
+use Rattle.words.specs.leaf.Groups.{Width, Fitting, Stepped, SteppedL, PrecedingL, Preceding}
+use Rattle.words.proofs.InWords.{sized-words, words-held}
 
 -- ---- a relation that composes
 
@@ -67,9 +66,6 @@ Forward T n s t = Stepped T n (s .x) (s .y) (s .l) t
 abbrev pub Back : Taps → ℕ → RegisterWords → RegisterWords → Type 0
 Back T n s t = Preceding T n (s .x) (s .y) (s .l) t
 
-abbrev registersOf : Taps → RegisterWords → Registers
-registersOf T s = wordRegisters T (value (s .x)) (value (s .y)) (s .l)
-
 pub forward-composes : (T : Taps) → Composes (FittingWords T) (Forward T)
 unfolding steps
 forward-composes T = record {
@@ -113,25 +109,20 @@ whole-eights w n = ⊎-elim eight sixteen
         let z16 : n % 16 ≡ 0 = subst (λ (v : ℕ). n % v ≡ 0) e z in
         omega arith
 
--- ---- the definition's inverse
+-- ---- the definition's words, some steps on or before
 
-sized-words : (T : Taps) (x y l : ℕ) → Sized T (wordRegisters T x y l)
-unfolding wordRegisters
-sized-words T x y l = record {
-  wideX = wide-wordBits (T .half) x;
-  wideY = wide-wordBits (T .half) y;
-  wideL = wide-wordBits 10 l;
-}
+-- words that are those of a state n steps on
+pub stepped-words : (T : Taps) (n : ℕ) (s t : RegisterWords) → t .x .lo < 2 ^ 64 → t .y .lo < 2 ^ 64 → Forward T n s t → t ≡ wordsAfter T n s
+unfolding wordsAfter
+stepped-words T n s t x y a = sym (words-held T t x y (a .fitting)) ∙ ap inWords (a .stepped)
 
--- words whose n steps lead to x, y and L's value after n steps from l
-pub undone-words : (T : Taps) → Lawful T → (n : ℕ) (x y : Register) (l after : ℕ) (t : RegisterWords) → SteppedL n l after → Preceding T n x y after t
-    → Undone T n x y l t
-unfolding wordRegisters afterL
-undone-words T lawful n x y l after t e a =
-    let found = wordRegisters T (value (t .x)) (value (t .y)) (t .l) in
-    record {
-      fitting = a .fitting;
-      undone =
-          sym (undo-steps T lawful n found (sized-words T (value (t .x)) (value (t .y)) (t .l)))
-          ∙ ap (undoSteps T n) (a .redone ∙ registers-path refl refl (e .stepped));
-    }
+-- words whose n steps lead to X and Y of a state, and to L's value after n steps from the state's
+pub undone-words : (T : Taps) → Lawful T → (n : ℕ) (s t : RegisterWords) (after : ℕ) → t .x .lo < 2 ^ 64 → t .y .lo < 2 ^ 64
+    → SteppedL n (s .l) after → Preceding T n (s .x) (s .y) after t → t ≡ wordsBefore T n s
+unfolding wordRegisters wordsBefore
+undone-words T lawful n s t after x y e a =
+    let found = registersOf T t in
+    sym (words-held T t x y (a .fitting))
+    ∙ ap inWords
+    (sym (undo-steps T lawful n found (sized-words T (value (t .x)) (value (t .y)) (t .l)))
+    ∙ ap (undoSteps T n) (a .redone ∙ registers-path refl refl (e .stepped)))

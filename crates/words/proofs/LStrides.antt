@@ -15,7 +15,7 @@ use Rattle.quark.proofs.Word.{wordBit-mod, length-wordBits}
 use Rattle.words.specs.leaf.Groups.{SteppedL}
 use Rattle.words.proofs.Groups.{L-composes}
 use Rattle.words.proofs.LSequence.{Recurs, doubled, length-stepsL, sequence, recurs, Firsts, first-bit, ten-firsts, firsts-joined, firsts-further}
-use Rattle.words.proofs.MovedUp.{up-lt}
+use Rattle.words.proofs.MovedUp.{up-lt, low-bit}
 
 pub firsts-eight : (l : ℕ) → Firsts 8 (wordBits 10 l) l
 firsts-eight l k h = first-bit l k (omega arith)
@@ -23,6 +23,11 @@ firsts-eight l k h = first-bit l k (omega arith)
 -- a word's low digits are its first bits
 firsts-low : (r : List ℕ) (w word : ℕ) → Firsts w r word → Firsts w r (word % 2 ^ w)
 firsts-low r w word first k h = first k h ∙ sym (wordBit-mod word w k h)
+
+-- eight, whatever stands above them
+pub firsts-eight-under : (l above : ℕ) → Firsts 8 (wordBits 10 l) (above * 2 ^ 8 + l % 2 ^ 8)
+firsts-eight-under l above k h =
+    firsts-low (wordBits 10 l) 8 l (firsts-eight l) k h ∙ sym (low-bit above 8 (l % 2 ^ 8) k (mod-lt l (pow-pos 8)) h)
 
 -- sixteen: the first eight bits of L, and of L eight steps on
 pub firsts-sixteen : (l next : ℕ) → wordBits 10 next ≡ stepsL 8 (wordBits 10 l) → Firsts 16 (wordBits 10 l) (next * 2 ^ 8 + l % 2 ^ 8)

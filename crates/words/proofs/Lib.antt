@@ -5,6 +5,7 @@ pub mod OneWord
 pub mod TwoWords
 pub mod Widths
 pub mod Fits
+pub mod InWords
 pub mod Groups
 pub mod LSequence
 pub mod LStrides

@@ -12,7 +12,7 @@ use lib.Pow.{pow-pos}
 use lib.Seq.{getD-drop}
 use Rattle.quark.specs.Feedback.{Taps, feedback, exchange, f, g, sumAt, h}
 use Rattle.quark.specs.Word.{wordBit}
-use Rattle.quark.proofs.Feedback.{feedback-first, sumAt-cong, length-exchange, first-exchange}
+use Rattle.quark.proofs.Feedback.{feedback-first, sumAt-cong, first-at-zero}
 use Rattle.quark.proofs.Taps.{All, all-at, all-map, Lawful}
 use Rattle.quark.proofs.Word.{wordBit-shr}
 use Rattle.words.specs.declared.back.LowTaps.{LowTaps}
@@ -151,10 +151,10 @@ module _ (T : Taps) (lawful : Lawful T) (low : LowTaps) (w : ℕ) (lows : LowTap
       let X′ = wordBit ((n * 2 ^ w + 0) / 2 ^ k) in
       let ts = T .fTaps in
       let others : (t : ℕ) → w ≤ t → X t ≡ X′ t = λ t more. read-other n w a k t small more in
-      let none : X′ (getD ts 0 0) ≡ 0 = ap X′ (lawful .f-first) ∙ no-new n w k 0 (omega arith) in
+      let none : X′ (getD ts 0 0) ≡ 0 = ap X′ (lawful .f .first) ∙ no-new n w k 0 (omega arith) in
       let new : X (getD ts 0 0) ≡ wordBit a k =
-      read-new n w a k (getD ts 0 0) small ∙ ap₂ (λ (m t : ℕ). m + wordBit a (k + t)) none (lawful .f-first) ∙ zero-add (wordBit a (k + 0)) ∙ ap (wordBit a) (add-zero k) in
-      let sum = feedback-first ts (lawful .f-count) X X′ none (all-map (λ t. w ≤ t) (λ t. X t ≡ X′ t) others (drop 1 ts) (lows .fOthers)) in
+      read-new n w a k (getD ts 0 0) small ∙ ap₂ (λ (m t : ℕ). m + wordBit a (k + t)) none (lawful .f .first) ∙ zero-add (wordBit a (k + 0)) ∙ ap (wordBit a) (add-zero k) in
+      let sum = feedback-first ts (lawful .f .count) X X′ none (all-map (λ t. w ≤ t) (λ t. X t ≡ X′ t) others (drop 1 ts) (lows .fOthers)) in
       omega (arith, sum, new)
 
   pub g-moved : (n b k : ℕ) → b < 2 ^ w
@@ -165,12 +165,12 @@ module _ (T : Taps) (lawful : Lawful T) (low : LowTaps) (w : ℕ) (lows : LowTap
       let Y′ = wordBit ((n * 2 ^ w + 0) / 2 ^ k) in
       let ts = exchange (T .gTaps) in
       let others : (t : ℕ) → w ≤ t → Y t ≡ Y′ t = λ t more. read-other n w b k t small more in
-      let first : getD ts 0 0 ≡ 0 = first-exchange (T .gTaps) ∙ lawful .g-first in
+      let first : getD ts 0 0 ≡ 0 = first-at-zero (T .gTaps) (lawful .g) .first in
       let e0 : Y (getD ts 0 0) ≡ Y′ (getD ts 0 0) + wordBit b k =
       read-new n w b k (getD ts 0 0) small ∙ ap (λ (i : ℕ). Y′ (getD ts 0 0) + wordBit b i) (ap (λ (t : ℕ). k + t) first ∙ add-zero k) in
       let e1 : Y (getD ts 1 0) ≡ Y′ (getD ts 1 0) + wordBit b (k + low .g) =
       read-new n w b k (getD ts 1 0) small ∙ ap (λ (t : ℕ). Y′ (getD ts 1 0) + wordBit b (k + t)) (lows .gLow) in
-      feedback-more ts (length-exchange (T .gTaps) ∙ lawful .g-count) Y Y′ (wordBit b k) (wordBit b (k + low .g)) e0 e1
+      feedback-more ts (first-at-zero (T .gTaps) (lawful .g) .count) Y Y′ (wordBit b k) (wordBit b (k + low .g)) e0 e1
       (all-map (λ t. w ≤ t) (λ t. Y t ≡ Y′ t) others (drop 2 ts) (lows .gOthers))
 
   pub h-moved : (m n a b k : ℕ) (L : ℕ → ℕ) → a < 2 ^ w → b < 2 ^ w

@@ -1,5 +1,5 @@
--- Sums of bits in words: `&` and `^` at one bit, the bits of a register from a tap on, the parity of the ones under a mask, a word that is
--- filled bit by bit, and the sums of several steps.
+-- Sums of bits in words: `&` and `^` at one bit, the bits of a register from a tap on, the ones under a mask modulo 2, a word that is filled
+-- bit by bit, and the sums of several steps.
 use mathlib.Core.Logic.{⊎-elim}
 use mathlib.Core.Path.{_≡_, refl, sym, ap, ap₂, _∙_}
 use Prim.Native.Nat.{ℕ, zero, suc, _+_, _*_, _-_, _/_, _%_, _^_, _≤_, _<_}

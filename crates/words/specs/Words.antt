@@ -1,44 +1,49 @@
 -- Registers in words, and the words some steps on or before (document 01, "Steps, permutation and inverse"). A word's bit i has weight
--- 2 ^ i; `wordBits k n` is the list of the bits 0 to k - 1 of n.
+-- 2 ^ i; `wordBits k n` is the list of the bits 0 to k - 1 of n, and `wordOf` the number of a list of bits.
 use mathlib.Core.Bool.{Bool, not, _&&_}
-use mathlib.Core.Path.{_≡_}
-use Prim.Native.Nat.{ℕ, _+_, _*_, _%_, _^_, _<_}
+use mathlib.Core.List.{List}
+use Prim.Native.Nat.{ℕ, _+_, _*_, _/_, _%_, _^_}
 use lib.Dec.{eqb, ltb}
 use Rattle.quark.specs.Feedback.{Taps}
 use Rattle.quark.specs.Instance.{instanceOf, isInstance, isWidth}
 use Rattle.quark.specs.Inverse.{undoSteps}
 use Rattle.quark.specs.Step.{Registers, steps, stepsL}
-use Rattle.quark.specs.Word.{wordBits}
+use Rattle.quark.specs.Word.{wordBits, wordOf}
 use Rattle.words.specs.declared.Register.{Register}
 use Rattle.words.specs.declared.RegisterWords.{RegisterWords}
+
+-- ---- registers from words and back
 
 -- the number that a register is
 abbrev pub value : Register → ℕ
 value r = r .hi * 2 ^ 64 + r .lo
 
--- the registers that words hold
+-- the registers that numbers hold, and those that words hold
 unfoldable pub wordRegisters : Taps → (x y l : ℕ) → Registers
 wordRegisters T x y l = record { X = wordBits (T .half) x; Y = wordBits (T .half) y; L = wordBits 10 l }
 
--- words hold no more than the registers' bits
-pub record Fitting (T : Taps) (x y : Register) (l : ℕ) : Type 0 where
-  pub fitsX : value x < 2 ^ T .half
-  pub fitsY : value y < 2 ^ T .half
-  pub fitsL : l < 1024
+abbrev pub registersOf : Taps → RegisterWords → Registers
+registersOf T s = wordRegisters T (value (s .x)) (value (s .y)) (s .l)
 
--- the words of a state are those of x, y and l after n steps; since they fit, they are determined by their bits
-pub record Stepped (T : Taps) (n : ℕ) (x y : Register) (l : ℕ) (s : RegisterWords) : Type 0 where
-  pub fitting : Fitting T (s .x) (s .y) (s .l)
-  pub stepped : wordRegisters T (value (s .x)) (value (s .y)) (s .l) ≡ steps T n (wordRegisters T (value x) (value y) l)
+-- the bits of a register in two words
+unfoldable pub twoWords : List ℕ → Register
+twoWords bits = record { hi = wordOf bits / 2 ^ 64; lo = wordOf bits % 2 ^ 64 }
 
--- the registers that x and y hold, with L after n steps from l
-unfoldable pub afterL : Taps → (n x y l : ℕ) → Registers
-afterL T n x y l = record { X = wordBits (T .half) x; Y = wordBits (T .half) y; L = stepsL n (wordBits 10 l) }
+-- the words that hold registers
+unfoldable pub inWords : Registers → RegisterWords
+inWords s = record { x = twoWords (s .X); y = twoWords (s .Y); l = wordOf (s .L) }
 
--- the words of a state are those of x and y before n steps that L began at l
-pub record Undone (T : Taps) (n : ℕ) (x y : Register) (l : ℕ) (s : RegisterWords) : Type 0 where
-  pub fitting : Fitting T (s .x) (s .y) (s .l)
-  pub undone : wordRegisters T (value (s .x)) (value (s .y)) (s .l) ≡ undoSteps T n (afterL T n (value x) (value y) l)
+-- ---- steps
+
+-- the words n steps on
+unfoldable pub wordsAfter : Taps → ℕ → RegisterWords → RegisterWords
+wordsAfter T n s = inWords (steps T n (registersOf T s))
+
+-- the words n steps before; the word of L in s is what L was before these steps
+unfoldable pub wordsBefore : Taps → ℕ → RegisterWords → RegisterWords
+wordsBefore T n s =
+    let r = registersOf T s in
+    inWords (undoSteps T n (record { X = r .X; Y = r .Y; L = stepsL n (r .L) }))
 
 -- a call fits: its number is an instance's; its width is one of the instance's, and not 1; its steps are whole groups of that width; and its
 -- words hold no more than the registers' bits

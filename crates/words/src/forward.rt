@@ -1,11 +1,11 @@
-// Groups of steps taken together: 8 for every instance, 16 for S (document 01, "Steps, permutation and inverse"). A group takes the new
+// Groups of steps taken together, eight of any instance or sixteen of S (document 01, "Steps, permutation and inverse"). A group takes the new
 // bits of all its steps from the old registers, which the half allows: highest tap + width is at most the half. L alone is extended in
 // strides.
 ghost use mathlib.Core.Path.{_≡_};
 ghost use Prim.Native.Nat.{_+_, _*_, _%_, _^_, _≤_, _<_};
 ghost use Rattle.quark.specs.Instance.{U, D, S, instanceOf};
-ghost use Rattle.words.specs.Words.{value, Fitting, Stepped};
-ghost use Rattle.words.specs.leaf.Groups.{Width, WidthOf, AfterGroup};
+ghost use Rattle.words.specs.Words.{value};
+ghost use Rattle.words.specs.leaf.Groups.{Width, WidthOf, Fitting, Stepped, AfterGroup};
 use crate::Register;
 use crate::RegisterWords;
 use crate::feedback::StepBits;

@@ -1,9 +1,9 @@
 // Several steps together on registers that are words (document 01, "Steps, permutation and inverse"): groups of 8 steps for every instance,
 // and of 16 for S. The operations are total: a call that does not fit hands its state back.
-ghost use mathlib.Core.Bool.{true, false};
+ghost use mathlib.Core.Bool.{cond};
 ghost use mathlib.Core.Path.{_≡_};
 ghost use Rattle.quark.specs.Instance.{instanceOf};
-ghost use Rattle.words.specs.Words.{Stepped, Undone, fits};
+ghost use Rattle.words.specs.Words.{wordsAfter, wordsBefore, fits};
 
 mod back;
 mod feedback;
@@ -31,8 +31,7 @@ pub struct RegisterWords {
 // is a multiple of it, X and Y have no bits past the half, and L is below 1024.
 // A call that does not fit gives the state as it was.
 pub fn run(instance: u32, width: u32, count: u32, state: RegisterWords) -> RegisterWords
-    ensures taken { λ r. ⌜ (fits instance width count state ≡ true → Stepped (instanceOf instance .taps) count (state .x) (state .y) (state .l) r) ⌝ }
-    ensures left { λ r. ⌜ (fits instance width count state ≡ false → r ≡ state) ⌝ }
+    ensures { λ r. ⌜ r ≡ cond (fits instance width count state) (wordsAfter (instanceOf instance .taps) count state) state ⌝ }
 {
     if !fitting::fits(instance, width, count, state) {
         return state;
@@ -43,8 +42,7 @@ pub fn run(instance: u32, width: u32, count: u32, state: RegisterWords) -> Regis
 // The state `count` steps before, `width` undone together; state.l is what L was before them, and comes back. The same calls fit.
 // A call that does not fit gives the state as it was.
 pub fn undo(instance: u32, width: u32, count: u32, state: RegisterWords) -> RegisterWords
-    ensures taken { λ r. ⌜ (fits instance width count state ≡ true → Undone (instanceOf instance .taps) count (state .x) (state .y) (state .l) r) ⌝ }
-    ensures left { λ r. ⌜ (fits instance width count state ≡ false → r ≡ state) ⌝ }
+    ensures { λ r. ⌜ r ≡ cond (fits instance width count state) (wordsBefore (instanceOf instance .taps) count state) state ⌝ }
 {
     if !fitting::fits(instance, width, count, state) {
         return state;

@@ -10,7 +10,7 @@ use Rattle.words.specs.declared.Register.{Register}
 use Rattle.words.specs.declared.RegisterWords.{RegisterWords}
 use Rattle.words.specs.declared.feedback.StepBits.{StepBits}
 use Rattle.words.specs.declared.masks.Masks.{Masks}
-use Rattle.words.specs.Words.{value, wordRegisters, Fitting}
+use Rattle.words.specs.Words.{value, wordRegisters}
 use Rattle.words.specs.leaf.FeedbackWords.{inStep, maskSum, pack}
 
 -- the width of a group
@@ -30,6 +30,17 @@ pub record SteppedL (n l r : ℕ) : Type 0 where
 pub record PrecedingL (n l r : ℕ) : Type 0 where
   pub fits : r < 1024
   pub redone : stepsL n (wordBits 10 r) ≡ wordBits 10 l
+
+-- words hold no more than the registers' bits
+pub record Fitting (T : Taps) (x y : Register) (l : ℕ) : Type 0 where
+  pub fitsX : value x < 2 ^ T .half
+  pub fitsY : value y < 2 ^ T .half
+  pub fitsL : l < 1024
+
+-- the words of a state are those of x, y and l after n steps
+pub record Stepped (T : Taps) (n : ℕ) (x y : Register) (l : ℕ) (s : RegisterWords) : Type 0 where
+  pub fitting : Fitting T (s .x) (s .y) (s .l)
+  pub stepped : wordRegisters T (value (s .x)) (value (s .y)) (s .l) ≡ steps T n (wordRegisters T (value x) (value y) l)
 
 -- the words of a state, taken n steps, are x, y and l
 pub record Preceding (T : Taps) (n : ℕ) (x y : Register) (l : ℕ) (s : RegisterWords) : Type 0 where

@@ -68,7 +68,7 @@ pub record Solved (known : StepBits) (d : Derivatives) (taps : LowTaps) (w : ℕ
   pub bitX : (k : ℕ) → wordBit (new .x) k ≡ (wordBit (known .x) k + readByG taps d new k) % 2
   pub bitY : (k : ℕ) → wordBit (new .y) k ≡ (wordBit (known .y) k + readByG taps d new k + readByH taps d new k) % 2
 
--- low taps with which the bits of w steps can be found from the last to the first: h's taps in Y are above 0, and the bits that g's low tap
+-- low taps with which the bits of w steps can be found, the last one first: h's taps in Y are above 0, and the bits that g's low tap
 -- changes, those below place w - g, are read again by X1 alone
 pub record Solvable (taps : LowTaps) (w : ℕ) : Type 0 where
   pub above : 0 < taps .y

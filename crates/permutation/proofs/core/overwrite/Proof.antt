@@ -11,7 +11,7 @@ use Rattle.quark.specs.Instance.{stateBytes}
 use Rattle.permutation.specs.Permute.{permuteNumber, permuteOutcome}
 use Rattle.permutation.specs.leaf.Core.{permuted}
 use Rattle.permutation.proofs.Accepted.{accepted-instance, accepted-width, accepted-length, refused-bytes, accepted-bytes}
-use Rattle.permutation.proofs.Overwriting.{load-fits, load-length, load-cells, permuted-cells, permuted-bytes}
+use Rattle.permutation.proofs.Overwriting.{load-fits, load-length, load-cells, stepped-cells, permuted-bytes}
 use Rattle.permutation.proofs.Widths.{rounds-whole}
 use Rattle.permutation.proofs.core.overwrite.Statement.{statement}
 use Rattle.permutation.proofs.core.overwrite.Tie as tie
@@ -68,7 +68,7 @@ store-requires c κs =
     let a = accepted .before .before .before .args in
     let n = state-length accepted in (
       load-fits _ (a .buffer .now) n,
-      permuted-cells _ (a .buffer .now) n _ (loaded .load .ensures) _ _ (counted .rounds .ensures) _ (stepped .run-or-undo .ensures),
+      stepped-cells _ (a .buffer .now) n _ (loaded .load .ensures) _ _ _ _ (stepped .run-or-undo .ensures),
     )
 
 same-length : tie.Need-same-length

@@ -1,5 +1,8 @@
--- `serial::feedback_sum` meets its contract: the polynomial again, in sums and products of bits.
+-- `serial::feedback_sum` meets its contract: the code is a sum of eleven bits and of eleven products. Which bits these are is read off the
+-- code, and the sum of them all is the definition's, in any order.
+use mathlib.Core.Path.{_∙_}
 use Prim.Native.Nat.{ℕ}
+use native.Mathlib.Omega.{arith}
 use borrow.Author.Needs.{needs}
 use Rattle.quark.specs.Bytes.{bit}
 use Rattle.quark.specs.Feedback.{feedback}
@@ -52,12 +55,12 @@ unfolding feedback indices
 returns c =
     let v = c .args .t1 in
     let b : (k : ℕ) → Product (bit v k) (bit v k) = λ k. single (c .pre k) in
-    (sum (b 0) ⊕ b 1 ⊕ b 2 ⊕ b 4 ⊕ b 5 ⊕ b 6 ⊕ b 7 ⊕ b 8 ⊕ b 9 ⊕ b 10 ⊕ b 11
-    ⊕ b 11 ⊗ b 12 ⊕ b 6 ⊗ b 7 ⊕ b 1 ⊗ b 3
-    ⊕ b 8 ⊗ b 10 ⊗ b 11 ⊕ b 4 ⊗ b 5 ⊗ b 6
-    ⊕ b 1 ⊗ b 5 ⊗ b 8 ⊗ b 12 ⊕ b 6 ⊗ b 7 ⊗ b 10 ⊗ b 11 ⊕ b 3 ⊗ b 4 ⊗ b 11 ⊗ b 12
-    ⊕ b 7 ⊗ b 8 ⊗ b 10 ⊗ b 11 ⊗ b 12 ⊕ b 1 ⊗ b 3 ⊗ b 4 ⊗ b 5 ⊗ b 6
-    ⊕ b 4 ⊗ b 5 ⊗ b 6 ⊗ b 7 ⊗ b 8 ⊗ b 10) .same
+    (sum (b _) ⊕ b _ ⊕ b _ ⊕ b _ ⊕ b _ ⊕ b _ ⊕ b _ ⊕ b _ ⊕ b _ ⊕ b _ ⊕ b _
+    ⊕ b _ ⊗ b _ ⊕ b _ ⊗ b _ ⊕ b _ ⊗ b _
+    ⊕ b _ ⊗ b _ ⊗ b _ ⊕ b _ ⊗ b _ ⊗ b _
+    ⊕ b _ ⊗ b _ ⊗ b _ ⊗ b _ ⊕ b _ ⊗ b _ ⊗ b _ ⊗ b _ ⊕ b _ ⊗ b _ ⊗ b _ ⊗ b _
+    ⊕ b _ ⊗ b _ ⊗ b _ ⊗ b _ ⊗ b _ ⊕ b _ ⊗ b _ ⊗ b _ ⊗ b _ ⊗ b _
+    ⊕ b _ ⊗ b _ ⊗ b _ ⊗ b _ ⊗ b _ ⊗ b _) .same ∙ omega arith
 
 pub feedback-sum-spec : {M : Type 1} → statement M
 feedback-sum-spec =

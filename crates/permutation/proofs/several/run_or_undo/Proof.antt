@@ -5,9 +5,10 @@ use Prim.Native.Nat.{ℕ, _+_, _≤_}
 use native.Mathlib.Omega.{arith}
 use lib.ListN.{length}
 use Rattle.quark.specs.Instance.{instanceOf}
-use Rattle.quark.proofs.Instance.{regular}
+use Rattle.quark.proofs.Instance.{regular, in-bytes}
+use Rattle.words.specs.declared.RegisterWords.{RegisterWords}
 use Rattle.words.specs.Words.{value}
-use Rattle.permutation.specs.leaf.Several.{written}
+use Rattle.permutation.specs.leaf.Several.{written, ranOrUndoneWords}
 use Rattle.permutation.proofs.CellWords.{length-written, ran-or-undone-words, loaded-fit}
 use Rattle.permutation.proofs.Widths.{word-filled}
 use Rattle.permutation.proofs.several.run_or_undo.Statement.{statement}
@@ -72,13 +73,15 @@ returns c =
     let a = s .args in
     let h = half .half-of .result in
     let e = half .half-of .ensures .0 in
-    let halves : instanceOf (a .instance) .b ≡ instanceOf (a .instance) .taps .half + instanceOf (a .instance) .taps .half =
-    omega (arith, regular (a .instance) .two-halves) in
-    let after = stepped .run-or-undo-words in
+    let T = instanceOf (a .instance) .taps in
+    let start : RegisterWords = record { x = x .load .result; y = y .load2 .result; l = a .l } in
+    let words : stepped .run-or-undo-words .result ≡ ranOrUndoneWords (a .inverse) T (a .count) start =
+    rw (loaded-fit (s .pre .0) (s .pre .1) (x .load .result) (y .load2 .result) h h e (x .load .ensures) (y .load2 .ensures)) at (stepped .run-or-undo-words .ensures) in
     c .save2 .ensures
-    ∙ ap (λ (t : List ℕ). written t h h (value (after .result .y))) (first one)
-    ∙ ran-or-undone-words (instanceOf (a .instance)) (a .bits .now) halves (omega (arith, s .pre .0 .full, half .half-of .ensures)) (x .load .result) (y .load2 .result) (a .l) (a .count) (after .result) (a .inverse) h e (x .load .ensures) (y .load2 .ensures)
-    (after .ensures (loaded-fit (s .pre .0) (s .pre .1) (x .load .result) (y .load2 .result) h h e (x .load .ensures) (y .load2 .ensures)))
+    ∙ ap (λ (t : List ℕ). written t h h (value (stepped .run-or-undo-words .result .y))) (first one)
+    ∙ ap (λ (t : RegisterWords). written (written (a .bits .now) 0 h (value (t .x))) h h (value (t .y))) words
+    ∙ ran-or-undone-words (instanceOf (a .instance)) (regular (a .instance)) (a .bits .now) (omega (arith, s .pre .0 .full, in-bytes (a .instance) .at-most-256)) (x .load .result) (y .load2 .result) (a .l) (a .count) (a .inverse) h e
+    (x .load .ensures) (y .load2 .ensures)
 
 pub run-or-undo-spec : {M : Type 1} → statement M
 run-or-undo-spec = tie.close (tie.spec half-of-requires load-requires load-requires-2 run-or-undo-words-requires save-requires save-requires-2 returns)

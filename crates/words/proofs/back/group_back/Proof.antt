@@ -3,8 +3,7 @@ use Prim.Native.Nat.{ℕ}
 use Rattle.quark.specs.Feedback.{Taps}
 use Rattle.quark.specs.Instance.{S}
 use Rattle.words.specs.declared.RegisterWords.{RegisterWords}
-use Rattle.words.specs.Words.{Fitting}
-use Rattle.words.specs.leaf.Groups.{Preceding}
+use Rattle.words.specs.leaf.Groups.{Fitting, Preceding}
 use Rattle.words.proofs.Widths.{some-width, sixteen, for-U, for-D, for-S, from-U, from-D, from-S}
 use Rattle.words.proofs.back.group_back.Statement.{statement}
 use Rattle.words.proofs.back.group_back.Tie as tie

@@ -3,7 +3,7 @@ use mathlib.Core.Path.{refl}
 use Prim.Native.Nat.{ℕ}
 use Rattle.quark.specs.Feedback.{Taps}
 use Rattle.words.specs.declared.RegisterWords.{RegisterWords}
-use Rattle.words.specs.Words.{Fitting, Stepped}
+use Rattle.words.specs.leaf.Groups.{Fitting, Stepped}
 use Rattle.words.proofs.Widths.{some-width, for-U, for-D, for-S, from-U, from-D, from-S}
 use Rattle.words.proofs.forward.group.Statement.{statement}
 use Rattle.words.proofs.forward.group.Tie as tie

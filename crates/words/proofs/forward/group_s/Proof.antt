@@ -2,15 +2,14 @@
 use mathlib.Core.Logic.{inl, inr}
 use mathlib.Core.Path.{refl, sym, subst}
 use Prim.Native.Nat.{ℕ, _+_, _*_, _%_}
-use native.Mathlib.Omega.{arith}
 use borrow.Author.Needs.{needs}
 use lib.Dec.{lit<, lit≤}
 use Rattle.quark.specs.Instance.{S}
-use Rattle.words.specs.Words.{Stepped}
+use Rattle.words.specs.leaf.Groups.{Stepped}
 use Rattle.words.proofs.Gained.{grouping-S-8, grouping-S-16}
 use Rattle.words.proofs.GroupForward.{group-steps}
 use Rattle.words.proofs.Groups.{L-composes}
-use Rattle.words.proofs.LStrides.{firsts-sixteen}
+use Rattle.words.proofs.LStrides.{firsts-eight-under, firsts-sixteen}
 use Rattle.words.proofs.Widths.{sixteen}
 use Rattle.words.proofs.forward.group_s.Statement.{statement}
 use Rattle.words.proofs.forward.group_s.Tie as tie
@@ -39,10 +38,8 @@ returns c =
     let masks = next .before in
     let s = masks .before in
     let a = s .args in
-    let n = next .eight-steps-of-l .result in
-    let first = firsts-sixteen (a .l) n (next .eight-steps-of-l .ensures .stepped) in
     subst (λ (w : ℕ). Stepped (S .taps) w (a .x) (a .y) (a .l) (c .after-group .result)) (sym (branch .if1 .taken))
-    (group-steps grouping-S-8 (s .pre .1) (n * 256 + a .l % 256) (λ k b. first k (omega arith)) (masks .masks-s .ensures) (products .products-s .ensures)
+    (group-steps grouping-S-8 (s .pre .1) _ (firsts-eight-under (a .l) _) (masks .masks-s .ensures) (products .products-s .ensures)
     (hs .h-s .result) (hs .h-s .ensures) (c .after-group .ensures .0) (c .after-group .ensures .1) (next .eight-steps-of-l .ensures))
 
 returns-2 : tie.Need-returns-2
@@ -65,4 +62,4 @@ pub group-s-spec : {M : Type 1} → statement M
 group-s-spec =
     tie.close
     (tie.spec (λ c κs. tt) (λ c κs. search needs) (λ c. search needs) (λ c. search needs) (λ c κs. tt) (λ c κs. tt) after-group-requires
-    (λ c κs. c .before .before .before .eight-steps-of-l .ensures .fits) after-group-requires-2 returns returns-2)
+    (λ c κs. search needs) after-group-requires-2 returns returns-2)
