@@ -7,7 +7,8 @@
  *
  * Answers (journal_refused_at apart). WILBROGED_ACCEPTED, or the number of the first refusal that holds, in the order that the function's
  * comment gives. A refused call writes nothing, so that its buffer still holds what it held before: look at the answer before you use the
- * buffer. Compilers that can warn where an answer is ignored do. An accepted call writes its buffer and nothing else.
+ * buffer. A compiler that can warn about an ignored answer does. An accepted call writes the buffer that its comment names, if any, and
+ * nothing else.
  *
  * Step widths. How many steps of the permutation are taken together: 1 or 8, and 16 for S-QUARK alone. Every width gives the same bytes;
  * the widest is the fastest.
@@ -115,7 +116,7 @@ uint32_t quark_digest(uint32_t instance, uint32_t width, const uint8_t *message,
  * Seals a body: writes it to the record, and its seal after it. The previous seal is the last 17 bytes of the record before, zeros for a
  * first record. It is taken on trust, and so are the body's station, sequence and time: 10 reads kind, lamp position, milliseconds and
  * bytes 18-22 alone. journal_verify tests the rest.
- * Refuses by 5 (key_len is not 16, previous_len 17, body_len 23 or record_len 40) and 10, in this order.
+ * Refuses by 5 (key_len is not 16, previous_len not 17, body_len not 23 or record_len not 40) and 10, in this order.
  *
  * The body must not lie in the record's buffer: build it elsewhere. Nor may the key or the previous seal; the record just
  * before the buffer, which ends with the previous seal, does not overlap it.
@@ -144,7 +145,7 @@ WILBROGED_NODISCARD
 uint32_t journal_verify(const uint8_t *key, size_t key_len, const uint8_t *journal, size_t journal_len);
 
 /*
- * The index of the record, counted from 0, by which journal_verify refuses the same arguments with 10, 11 or 12. It is 0 where
+ * The index of the record, counted from 0, at which journal_verify refuses the same arguments with 10, 11 or 12. It is 0 where
  * journal_verify refuses with another number, and where it accepts, so ask journal_verify first. It refuses nothing and writes nothing,
  * and takes as long as journal_verify.
  */

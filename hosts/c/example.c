@@ -1,4 +1,4 @@
-/* Seals two records, checks their journal, and digests a message. */
+/* Digests a message, seals two records, and checks their journal, whole and changed. */
 #include "wilbroged.h"
 
 #include <stdio.h>
@@ -9,6 +9,11 @@ int main(void) {
     uint8_t body[WILBROGED_BODY_BYTES] = {0}, previous[WILBROGED_SEAL_BYTES] = {0}; /* zeros before the first record */
     uint8_t journal[2 * WILBROGED_RECORD_BYTES], digest[WILBROGED_S_BYTES], *record = journal;
     uint32_t answer;
+
+    if (quark_digest(WILBROGED_S, WILBROGED_S_WIDTH, message, sizeof message, 8 * sizeof message, digest, sizeof digest)
+        != WILBROGED_ACCEPTED) {
+        return 1;
+    }
 
     body[12] = 1; /* lit, */
     body[13] = 2; /* the lamp at position 2 */
@@ -25,10 +30,9 @@ int main(void) {
 
     journal[WILBROGED_RECORD_BYTES + 14] ^= 1; /* the second record's current */
     answer = journal_verify(key, sizeof key, journal, sizeof journal);
-    if (answer == WILBROGED_DIFFERENT_SEAL) {
-        printf("refused %u at record %u\n", (unsigned)answer, (unsigned)journal_refused_at(key, sizeof key, journal, sizeof journal));
+    if (answer != WILBROGED_DIFFERENT_SEAL) {
+        return 1;
     }
-
-    answer = quark_digest(WILBROGED_S, WILBROGED_S_WIDTH, message, sizeof message, 8 * sizeof message, digest, sizeof digest);
-    return answer == WILBROGED_ACCEPTED ? 0 : 1;
+    printf("refused %u at record %u\n", (unsigned)answer, (unsigned)journal_refused_at(key, sizeof key, journal, sizeof journal));
+    return 0;
 }

@@ -1,5 +1,5 @@
-// The byte form and single bits (document 01, "Byte form"): bit i of a state is in byte i div 8 with weight 2 to the (7 - i mod 8).
-// A buffer has as many bytes as b / 8, at most 32; its bits go into the first b of 256 cells.
+// The byte form and single bits (document 01, "Steps, permutation and inverse"): bit i of a state is in byte i div 8 with weight 2 to the
+// (7 - i mod 8). A buffer has as many bytes as b / 8, at most 32; its bits go into the first b of 256 cells.
 ghost use mathlib.Core.Path.{_≡_};
 ghost use mathlib.Core.List.{_++_};
 ghost use Prim.Native.Nat.{_*_, _-_, _<_, _≤_};

@@ -1,5 +1,5 @@
--- From any b bits through the blocks of a list, each added at the end and followed by P, and through the squeezing runs; and back. For any
--- regular instance each of these can be undone, so that no two states lead to one.
+-- From any b bits through the blocks of a list, each added to the last bits and followed by P, and through the squeezing runs; and back. For
+-- any regular instance each of these can be undone, so that no two states lead to one.
 use mathlib.Core.List.{List, _++_}
 use mathlib.Core.Logic.{_↔_}
 use mathlib.Core.Path.{_≡_, refl, sym, ap, ap₂, _∙_}

@@ -38,7 +38,7 @@ pub starred :
     (f (U .taps) (ones U) ≡ 0) × (g (U .taps) (ones U) ≡ 0)
     × (f (D .taps) (ones D) ≡ 0) × (g (D .taps) (ones D) ≡ 0)
     × (f (S .taps) (ones S) ≡ 0) × (g (S .taps) (ones S) ≡ 0)
-    -- f of U: X15 (a3) alone adds nothing, X14 (a2) does, and X9 and X15 together add their product too
+    -- f of U: X15 (a3) alone adds nothing, X14 (a2) does, and with X9 (a1) and X15 the bit a1 and the product a1 a3 cancel
     × (f (U .taps) (only U 15) ≡ 0) × (f (U .taps) (only U 14) ≡ 1) × (f (U .taps) (onlyTwo U 9 15) ≡ 0)
     -- h where every bit of X and Y is 1, by L0
     × (h (U .taps) (ones U) (ones U) (withL0 1) ≡ 0) × (h (U .taps) (ones U) (ones U) (withL0 0) ≡ 1)

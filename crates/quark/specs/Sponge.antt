@@ -22,7 +22,7 @@ module _ (I : Instance) where
   unfoldable pub runP : Counted → Counted
   runP s = record { bits = P (I .taps) (s .bits); runs = suc (s .runs) }
 
-  -- bits are added at the end of a state, the first of them at place b - r
+  -- bits are added, modulo 2, to a state's last bits, the first of them at place b - r
   unfoldable pub addLast : List ℕ → List ℕ → List ℕ
   addLast s ys = take (I .b - I .r) s ++ sum (drop (I .b - I .r) s) ys
 
@@ -41,7 +41,7 @@ module _ (I : Instance) where
   unfoldable pub block : List ℕ → ℕ → List ℕ
   block l k = take (I .r) (drop (k * I .r) l)
 
-  -- document 01's state just before block k: the initial bits, after each earlier block has been added and P has run
+  -- document 01's state just before block k: the initial bits, with each earlier block added in order and a run of P after each
   unfoldable pub before : List ℕ → ℕ → Counted
   before l zero = record { bits = I .initial; runs = 0 }
   before l (suc k) = runP (absorb (before l k) (block l k))

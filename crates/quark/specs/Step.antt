@@ -17,7 +17,7 @@ shift register gained = drop 1 register ++ (gained ∷ [])
 unfoldable pub stepL : List ℕ → List ℕ
 stepL l = shift l (p (bit l))
 
--- one step (3.2.2): every new bit is of the registers before the step. (L has ten bits; where the paper numbers its last 10, 9 is meant.)
+-- one step (3.2.2): every new bit comes from the registers before the step. (L has ten bits; where the paper numbers its last 10, 9 is meant.)
 unfoldable pub step : Taps → Registers → Registers
 step T s =
     let X = bit (s .X) in

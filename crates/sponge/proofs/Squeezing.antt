@@ -1,4 +1,4 @@
--- Giving out blocks: a run of P for each, and its last r bits as bytes.
+-- Giving out blocks: a run of P for each, then the state's last r bits as bytes.
 use mathlib.Core.List.{List, [], _++_, append-nil}
 use mathlib.Core.Path.{_≡_, refl, sym, ap, ap₂, _∙_}
 use Prim.Native.Nat.{ℕ, zero, suc, _+_, _*_, _-_, _/_, _≤_, _<_}

@@ -11,8 +11,8 @@ use Rattle.permutation.specs.Lines.{line4}
 use Rattle.sponge.specs.declared.State.{State}
 use Rattle.sponge.specs.Outcomes.{line6, line7, initResult, absorbNumber, absorbResult, finishNumber, finishResult}
 
--- a call's arguments but the state: of a piece the bytes that it reads, its bit count and its step width; of a finish its step width and the
--- length of its buffer
+-- a call's arguments but the state: of a piece the bytes of its slice at the call, its bit count and its step width; of a finish its step
+-- width and the length of its buffer
 pub data Call : Type 0 where
   piece : (bytes : List ℕ) (count width : ℕ) → Call
   finish : (width buffer : ℕ) → Call
@@ -45,7 +45,7 @@ pub record Message : Type 0 where
   pub bits : List ℕ
   pub closed : Bool
 
--- before the first call
+-- before the first call: no bits, and open
 abbrev pub empty : Message
 empty = record { bits = []; closed = false }
 
@@ -60,7 +60,7 @@ unfoldable pub grown : Message → Call → Message
 grown m (piece bytes count width) = record { bits = m .bits ++ bitsOf count bytes; closed = false }
 grown m (finish width buffer) = record { bits = m .bits; closed = true }
 
--- the message after one more call: it grows where no line holds, and so a refused call adds nothing
+-- the message after one more call: it grows exactly where no line holds, so that a refused call adds nothing
 unfoldable pub extended : ℕ → Message → Call → Message
 extended i m call = cond (eqb (messageNumber i m call) 0) (grown m call) m
 

@@ -32,7 +32,8 @@ soundRuns I phase total = cond (eqb phase absorbingPhase) (total / I .r) (total 
 abbrev pub restZero : State → Bool
 restZero s = allZero (drop (stateBytes (s .instance)) (s .bits))
 
--- four tests: of the total, of the bytes that the instance does not use, of the runs by total and phase, and of the phase
+-- sound: the total is within the limit, only zeros stand after the first b/8 bytes, the runs are those of total and phase, and the phase is
+-- one of the two
 unfoldable pub sound : State → Bool
 sound s =
     leb (s .total) limit && restZero s

@@ -26,7 +26,7 @@ fn put(buffer: &mut [u8], at: usize, part: &[u8])
     }
 }
 
-// One block for the digest writer: the part of the state's bytes from (b - r)/8 on, r/8 of them.
+// Hands one block to the digest writer: r/8 of the state's bytes, the part from (b - r)/8 on.
 fn give(state: State, buffer: &mut [u8], at: usize)
     requires { ⌜ at + instanceOf (state .instance) .r / 8 ≤ length (now buffer) ⌝ }
     ensures { λ _. ⌜ now (buffer .exit)

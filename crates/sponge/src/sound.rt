@@ -48,7 +48,7 @@ pub fn is_closed(state: State) -> bool
     state.phase == CLOSED
 }
 
-// Whether a state is sound, and its phase is 0 or 1.
+// Whether a state is sound, its phase included.
 pub fn is_sound(state: State) -> bool
     ensures { λ r. ⌜ r ≡ sound state ⌝ }
 {

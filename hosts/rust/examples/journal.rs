@@ -1,7 +1,12 @@
-// Seals two records, checks their journal, and digests a message.
+// Digests a message, seals two records, and checks their journal, whole and changed.
 use wilbroged::{digest, seal, verify, Refused, BODY_BYTES, RECORD_BYTES, S, SEAL_BYTES, S_BYTES, S_WIDTH};
 
 fn run() -> Result<(), Refused> {
+    let message = b"lamp";
+    let mut bytes = [0; S_BYTES];
+    digest(S, S_WIDTH, message, 8 * message.len() as u64, &mut bytes)?;
+    println!("S-QUARK of lamp: {bytes:02X?}");
+
     let key = *b"lighthouse key 1";
     let mut body = [0; BODY_BYTES];
     body[12] = 1; // lit,
@@ -15,14 +20,10 @@ fn run() -> Result<(), Refused> {
     }
     verify(&key, &journal)?;
 
-    let mut changed = journal;
-    changed[RECORD_BYTES + 14] ^= 1; // the second record's current
-    assert_eq!(verify(&key, &changed), Err(Refused { number: Refused::DIFFERENT_SEAL, place: Some(1) }));
-
-    let message = b"lamp";
-    let mut bytes = [0; S_BYTES];
-    digest(S, S_WIDTH, message, 8 * message.len() as u64, &mut bytes)?;
-    println!("S-QUARK of lamp: {bytes:02X?}");
+    journal[RECORD_BYTES + 14] ^= 1; // the second record's current
+    let refused = verify(&key, &journal).expect_err("a changed record is refused");
+    assert_eq!(refused, Refused { number: Refused::DIFFERENT_SEAL, place: Some(1) });
+    println!("{refused}");
     Ok(())
 }
 

@@ -1,11 +1,15 @@
-//! The documents say what the sources have: docs/RULES.md each refusal with its number and its sentence, and each operation's order of tests;
-//! docs/PROOFS.md the theorems, functions and must-fail edits by their names, every edit among them.
+//! The documents say what the sources have: docs/RULES.md each refusal with its number and its sentence, each operation's order of tests, the
+//! instances and the layout of a body; docs/PROOFS.md the theorems, functions and must-fail edits by their names, every edit among them.
 mod sources;
 
 use sources::{names, refusals, text, Refusal};
 use std::collections::BTreeSet;
+use wilbroged::*;
 
-/// The rows of the tables of a document, with the line of its last heading before each; the rows that head a table are left out.
+const RULES: &str = "docs/RULES.md";
+const PROOFS: &str = "docs/PROOFS.md";
+
+/// The rows of the tables of a document, with the last heading before each; the rows that head a table are left out.
 fn rows(document: &str) -> Vec<(String, Vec<String>)> {
     let (mut heading, mut rows) = (String::new(), Vec::new());
     let document = text(document);
@@ -16,7 +20,7 @@ fn rows(document: &str) -> Vec<(String, Vec<String>)> {
         }
         let heads = lines.get(i + 1).is_some_and(|next| next.starts_with("|---"));
         if let Some(row) = line.strip_prefix("| ").filter(|_| !heads) {
-            let cells = row.trim_end_matches('|').split('|').map(|cell| cell.trim().to_string());
+            let cells = row.strip_suffix('|').expect("the end of a row").split('|').map(|cell| cell.trim().to_string());
             rows.push((heading.clone(), cells.collect()));
         }
     }
@@ -35,15 +39,17 @@ fn quoted(text: &str) -> Vec<&str> {
     text.split('`').skip(1).step_by(2).collect()
 }
 
-/// The numbers in a text.
+/// The numbers in a text; commas between digits are passed over.
 fn numbers(text: &str) -> Vec<u32> {
-    text.split(|c: char| !c.is_ascii_digit()).filter_map(|part| part.parse().ok()).collect()
+    let digits = |part: &str| part.replace(',', "").parse().ok();
+    text.split(|c: char| !c.is_ascii_digit() && c != ',').filter_map(digits).collect()
 }
+
+// ---- RULES.md
 
 #[test]
 fn rules_have_every_refusal() {
-    let rows = rows_below("docs/RULES.md", "Refusals");
-    let said = rows.iter().map(|row| Refusal {
+    let said = rows_below(RULES, "Refusals").into_iter().map(|row| Refusal {
         number: row[0].parse().unwrap(),
         name: quoted(&row[1])[0].to_string(),
         sentence: row[2].clone(),
@@ -51,53 +57,145 @@ fn rules_have_every_refusal() {
     assert_eq!(said.collect::<Vec<_>>(), refusals());
 }
 
+/// A comment of a definition that begins with a refusal's number goes on with its sentence.
+#[test]
+fn definitions_have_the_same_sentences() {
+    let mut compared = 0;
+    for name in names("crates") {
+        for file in names(&format!("crates/{name}/specs")).iter().filter(|file| file.ends_with(".antt")) {
+            for line in text(&format!("crates/{name}/specs/{file}")).lines() {
+                let Some((number, sentence)) = line.trim_start().strip_prefix("-- ").and_then(|line| line.split_once(". ")) else {
+                    continue;
+                };
+                let Ok(number) = number.parse::<u32>() else { continue };
+                let refusal = refusals().into_iter().find(|refusal| refusal.number == number);
+                assert_eq!(sentence, refusal.expect("a refusal").sentence, "crates/{name}/specs/{file}");
+                compared += 1;
+            }
+        }
+    }
+    assert!(compared >= 12, "{compared} sentences");
+}
+
 /// The numbers in the lines of a definition, `(.., NUMBER)` each, in their order; a number once where it stands several times in a row.
 fn lines_of(file: &str, definition: &str) -> Vec<u32> {
     let source = text(file);
-    let body = source.split_once(&format!("\n{definition} ")).and_then(|(_, rest)| rest.split_once('\n')?.1.split("\n\n").next());
+    let from = source.split_once(&format!("\nunfoldable pub {definition} ")).map(|(_, rest)| rest);
+    let body = from.and_then(|rest| rest.split_once('\n')?.1.split("\n\n").next());
     let body = body.unwrap_or_else(|| panic!("{file} has no {definition}"));
     let ends = body.match_indices(')').filter_map(|(end, _)| body[..end].rsplit_once(", ")?.1.parse().ok());
     let mut found: Vec<u32> = ends.collect();
     found.dedup();
+    assert!(!found.is_empty(), "{file} has no lines in {definition}");
     found
 }
 
-/// The order in which an operation tests its refusals, by the definitions that its contract names.
-fn order(operation: &str) -> Vec<u32> {
+/// Each operation, with the order in which it tests its refusals by the definitions that its contract names.
+fn orders() -> Vec<(&'static str, Vec<u32>)> {
     let (permute, outcomes) = ("crates/permutation/specs/Permute.antt", "crates/sponge/specs/Outcomes.antt");
     let (lines, record) = ("crates/records/specs/Lines.antt", "crates/records/specs/Record.antt");
     let (journal, next) = ("crates/journal/specs/Journal.antt", "crates/journal/specs/Next.antt");
-    let front = || lines_of(lines, "unfoldable pub frontLines");
-    let layout = || lines_of(lines, "unfoldable pub layoutLine");
-    let of_a_record = || [layout(), lines_of(record, "unfoldable pub today"), lines_of(lines, "unfoldable pub sealLine")].concat();
-    match operation {
-        "permute" | "invert" => lines_of(permute, "unfoldable pub permuteNumber"),
-        "init" => lines_of(outcomes, "unfoldable pub initNumber"),
-        "absorb" => lines_of(outcomes, "unfoldable pub absorbNumber"),
-        "finish" => lines_of(outcomes, "unfoldable pub finishNumber"),
-        "digest" => lines_of(outcomes, "unfoldable pub digestNumber"),
-        "seal" => [front(), layout()].concat(),
-        "check" => [front(), of_a_record()].concat(),
-        "verify" => [lines_of(journal, "unfoldable pub verifyNumber"), of_a_record()].concat(),
-        "find" => lines_of(journal, "unfoldable pub findNumber"),
-        "Reader::next" | "next_at" => lines_of(next, "unfoldable pub nextNumber"),
-        "find_refusal" | "report" => vec![],
-        _ => panic!("the operation {operation} has no rule here"),
-    }
+    let front = lines_of(lines, "frontLines");
+    let layout = lines_of(lines, "layoutLine");
+    let of_a_record = [layout.clone(), lines_of(record, "today"), lines_of(lines, "sealLine")].concat();
+    vec![
+        ("permute", lines_of(permute, "permuteNumber")),
+        ("invert", lines_of(permute, "permuteNumber")),
+        ("init", lines_of(outcomes, "initNumber")),
+        ("absorb", lines_of(outcomes, "absorbNumber")),
+        ("finish", lines_of(outcomes, "finishNumber")),
+        ("digest", lines_of(outcomes, "digestNumber")),
+        ("seal", [front.clone(), layout].concat()),
+        ("check", [front, of_a_record.clone()].concat()),
+        ("verify", [lines_of(journal, "verifyNumber"), of_a_record].concat()),
+        ("find", lines_of(journal, "findNumber")),
+        ("find_refusal", vec![]),
+        ("Reader::next", lines_of(next, "nextNumber")),
+        ("next_at", lines_of(next, "nextNumber")),
+        ("report", vec![]),
+    ]
 }
 
 #[test]
 fn rules_have_every_order() {
-    for row in rows_below("docs/RULES.md", "Operations, and the order of their tests") {
-        let operations = row[0].split(" of ").next().unwrap();
-        let said = numbers(row[1].split(';').next().unwrap());
-        for operation in quoted(operations) {
-            assert_eq!(said, order(operation), "{operation}");
-        }
+    let rows = rows_below(RULES, "Operations, and the order of their tests");
+    let said = rows.iter().flat_map(|row| {
+        let order = numbers(&row[1].split(';').next().unwrap().replace(", ", " "));
+        quoted(row[0].split(" of ").next().unwrap()).into_iter().map(move |operation| (operation, order.clone()))
+    });
+    assert_eq!(said.collect::<Vec<_>>(), orders());
+}
+
+/// The table of the instances: the bytes and the widest width are those of the names, and the rest follows from b and r.
+#[test]
+fn rules_have_the_instances() {
+    let rows = rows_below(RULES, "Instances, widths, bits");
+    let named = [(U, U_BYTES, U_WIDTH), (D, D_BYTES, D_WIDTH), (S, S_BYTES, S_WIDTH)];
+    assert_eq!(rows.len(), named.len());
+    for (row, (number, bytes, width)) in rows.iter().zip(named) {
+        let cell = |i: usize| numbers(&row[i])[0];
+        let (rate, b) = (reference::digest::rate_bytes(number) as u32 * 8, bytes as u32 * 8);
+        assert_eq!((cell(0), cell(2), cell(3), cell(4)), (number, rate, b, bytes as u32));
+        assert_eq!((cell(5), cell(6)), (4 * b, b / rate));
+        assert_eq!(numbers(&row[7].replace(", ", " ")).last(), Some(&width));
     }
 }
 
-/// The crate that a section of docs/PROOFS.md is about: its heading is the crate's name in backticks, and perhaps more.
+/// Whether `seal` takes a body with these bytes from an offset on, and this kind.
+fn takes(kind: u8, at: usize, bytes: &[u8]) -> bool {
+    let mut body = [0; BODY_BYTES];
+    (body[12], body[13]) = (kind, 1);
+    body[at..at + bytes.len()].copy_from_slice(bytes);
+    seal(&[1; KEY_BYTES], &[0; SEAL_BYTES], &body, &mut [0; RECORD_BYTES]).is_ok()
+}
+
+/// The table of the record: what a row allows is what `seal` takes, and the header has the same rows.
+#[test]
+fn rules_have_the_layout() {
+    let header = text("include/wilbroged.h");
+    let mut next = 0;
+    for row in rows_below(RULES, "The record") {
+        let (bytes, field, allowed) = (&row[0], &row[1], &row[2]);
+        let ends = numbers(&bytes.replace('-', " "));
+        let (first, last) = (ends[0] as usize, ends[ends.len() - 1] as usize);
+        assert_eq!(first, next, "the byte after the row before");
+        next = last + 1;
+        let zeros = vec![0; last - first + 1];
+        let ones = vec![0xFF; last - first + 1];
+        match (allowed.as_str(), &numbers(allowed)[..]) {
+            ("-", _) => assert_eq!((first, last), (BODY_BYTES, RECORD_BYTES - 1)),
+            ("any value", _) => assert!(takes(1, first, &zeros) && takes(1, first, &ones)),
+            ("any value where the kind is 3, else 0", _) => {
+                (1..=4).for_each(|kind| assert_eq!(takes(kind, first, &ones), kind == 3))
+            }
+            ("0", _) => {
+                for at in first..=last {
+                    assert!(takes(1, at, &[0]) && !takes(1, at, &[1]));
+                }
+            }
+            (_, &[least, most]) => {
+                for value in 0..=255 {
+                    let lawful = (least..=most).contains(&value.into());
+                    let taken = if first == 12 { takes(value, 14, &[0]) } else { takes(1, first, &[value]) };
+                    assert_eq!(taken, lawful, "byte {first} is {value}");
+                }
+            }
+            _ => panic!("what byte {first} may be is not understood: {allowed}"),
+        }
+        if allowed != "-" {
+            let line = header.lines().find_map(|line| line.strip_prefix(" * ")?.trim().strip_prefix(&format!("{bytes} ")));
+            let line = line.unwrap_or_else(|| panic!("the header has no row for the bytes {bytes}"));
+            let range = if allowed.contains(" to ") && !field.contains(':') { allowed } else { "" };
+            let field = if field == "none" { "zero" } else { field };
+            assert!(line.contains(field) && line.contains(range), "the header's row for the bytes {bytes}: {line}");
+        }
+    }
+    assert_eq!(next, RECORD_BYTES);
+}
+
+// ---- PROOFS.md
+
+/// The crate that a section is about: its heading begins with the crate's name in backticks.
 fn crate_of(heading: &str) -> String {
     quoted(heading).first().unwrap_or_else(|| panic!("the heading '{heading}' names no crate")).to_string()
 }
@@ -119,7 +217,6 @@ fn has_theorem(name: &str, theorem: &str) -> bool {
 
 /// Whether a crate has a public function, by its name or its method's.
 fn has_function(name: &str, function: &str) -> bool {
-    let function = function.rsplit("::").next().unwrap();
     names(&format!("crates/{name}/src")).iter().any(|file| {
         let source = text(&format!("crates/{name}/src/{file}"));
         ["pub fn ", "pub extern \"C\" fn "].iter().any(|prefix| {
@@ -136,22 +233,21 @@ fn edits(name: &str) -> BTreeSet<String> {
 
 #[test]
 fn proofs_name_what_is_there() {
-    for (heading, row) in rows("docs/PROOFS.md") {
+    for (heading, row) in rows(PROOFS) {
         let name = crate_of(&heading);
         let [_, by, tried] = &row[..] else { panic!("a row of {} cells below '{heading}'", row.len()) };
         for said in quoted(by) {
             assert!(has_theorem(&name, said) || has_function(&name, said), "{name} has no {said}");
         }
-        let edits = edits(&name);
         for edit in quoted(tried) {
-            assert!(edits.contains(edit), "{name} has no edit {edit}");
+            assert!(edits(&name).contains(edit), "{name} has no edit {edit}");
         }
     }
 }
 
 #[test]
 fn proofs_name_every_edit() {
-    let rows = rows("docs/PROOFS.md");
+    let rows = rows(PROOFS);
     for name in names("crates") {
         let below = rows.iter().filter(|row| crate_of(&row.0) == name);
         let said: BTreeSet<String> = below.flat_map(|row| quoted(&row.1[2])).map(str::to_string).collect();

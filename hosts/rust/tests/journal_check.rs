@@ -34,7 +34,7 @@ fn printed_from(input: Stdio) -> String {
     printed
 }
 
-/// What the program prints for an input that comes through a pipe, so many bytes at a time.
+/// What the program prints for an input that comes through a pipe, `at_a_time` bytes at a time.
 fn printed(input: &[u8], at_a_time: usize) -> String {
     let mut child = Command::new(program()).stdin(Stdio::piped()).stdout(Stdio::piped()).stderr(Stdio::piped()).spawn().unwrap();
     let mut pipe = child.stdin.take().unwrap();
@@ -169,7 +169,7 @@ fn two_faults() {
     check(&damaged(&[(0, 12)])[..16 + 3 * RECORD + 1], "refused 9 0");
 }
 
-/// A damaged record that is sealed again with all behind it: what is left is the layout and the succession.
+/// A damaged record that is sealed again with all records after it: what is left is the layout and the succession.
 #[test]
 fn resealed() {
     let whole = lawful(45, 4);

@@ -23,7 +23,7 @@ groups-back-requires c κs =
     let f = fitting (c .before) in
     (fits-width f, record { fitsX = f .words .fitsX; fitsY = f .words .fitsY; fitsL = c .ahead .ensures .fits })
 
--- the words that come back are words
+-- the low words that come back are below 2 ^ 64
 words : (c : tie.After-groups-back) → (c .groups-back .result .x .lo < 2 ^ 64) × (c .groups-back .result .y .lo < 2 ^ 64)
 words c = (search needs, search needs)
 

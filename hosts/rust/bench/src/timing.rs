@@ -18,7 +18,7 @@ impl Timed {
         Timed { call: Box::new(call), best: f64::INFINITY }
     }
 
-    /// One more round, with so many calls between two looks at the clock. Every call gets the buffer as the call before left it.
+    /// One more round, with `calls_at_once` calls between two looks at the clock. Every call gets the buffer as the call before left it.
     pub fn round(&mut self, buffer: &mut [u8], calls_at_once: u32) {
         let start = Instant::now();
         let mut calls = 0;

@@ -208,7 +208,7 @@ fn products_s(x: Register, y: Register) -> StepBits {
     }
 }
 
-/// The parity of the ones under a mask.
+/// The ones of a register under a mask, counted modulo 2.
 #[inline(always)]
 fn parity(r: Register, mask: Register) -> u64 {
     u64::from(((r.hi & mask.hi) ^ (r.lo & mask.lo)).count_ones() % 2)

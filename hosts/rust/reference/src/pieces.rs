@@ -44,7 +44,7 @@ impl State {
             }
     }
 
-    /// Adds a bit at the place of the next one.
+    /// Adds a bit at the index of the next one.
     fn add(&mut self, bit: u8) {
         let b = 8 * state_bytes(self.instance) as u32;
         let place = (b - rate(self.instance) + self.total % rate(self.instance)) as usize;

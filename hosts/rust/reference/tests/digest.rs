@@ -9,7 +9,7 @@ fn appendix_b_digests() {
     }
 }
 
-/// Document 01: "Blocks: U 0 bits 1, 7 bits 1, 8 bits 2. D 15 bits 1, 16 bits 2. S 31 bits 1, 32 bits 2."
+/// How many blocks a message pads to: empty, a bit short of a block, a full block.
 #[test]
 fn blocks() {
     for (instance, bits, blocks) in [(1, 0, 1), (1, 7, 1), (1, 8, 2), (2, 15, 1), (2, 16, 2), (3, 31, 1), (3, 32, 2)] {
