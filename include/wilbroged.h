@@ -2,8 +2,8 @@
  * Wilbroged for C and C++: QUARK's permutation, its inverse and its digest, sealed records and the journal check.
  *
  * Link target/staticlib/libwilbroged.a, which `rt staticlib wilbroged` writes; it is for Linux on x86-64, and of the C library it needs
- * memcpy and memmove. The functions are those of crates/wilbroged, each proved to answer and to write what its comment here says, for every
- * input. docs/RULES.md explains the rules and every refusal.
+ * memcpy and memmove. The functions are those of crates/wilbroged, each proved to meet its contract there for every input; its comment here
+ * puts the contract into words. docs/RULES.md explains the rules and every refusal.
  *
  * Answers (journal_refused_at apart). WILBROGED_ACCEPTED, or the number of the first refusal that holds, in the order that the function's
  * comment gives. A refused call writes nothing, so that its buffer still holds what it held before: look at the answer before you use the
@@ -22,6 +22,8 @@
  *
  * Threads. No function keeps a state of its own or allocates memory, so threads may call all of them at the same time, as long as no call
  * writes bytes that another call reads or writes.
+ *
+ * Stack. No function was seen to take more than 2 kilobytes.
  *
  * Not promised. Calls do not take constant time, and a key is not hidden from someone who can measure them.
  */

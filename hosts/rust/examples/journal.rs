@@ -1,4 +1,4 @@
-// Digests a message, seals two records, and checks their journal, whole and changed.
+// Digests a message, seals two records and checks their journal; then changes a byte of the second and sees it refused.
 use wilbroged::{digest, seal, verify, Refused, BODY_BYTES, RECORD_BYTES, S, SEAL_BYTES, S_BYTES, S_WIDTH};
 
 fn run() -> Result<(), Refused> {
@@ -13,8 +13,8 @@ fn run() -> Result<(), Refused> {
     body[13] = 2; // the lamp at position 2
     let mut journal = [0; 2 * RECORD_BYTES];
     let mut previous = [0; SEAL_BYTES]; // zeros before the first record
-    for (sequence, record) in (1..).zip(journal.chunks_mut(RECORD_BYTES)) {
-        body[7] = sequence;
+    for (sequence, record) in (1u32..).zip(journal.chunks_mut(RECORD_BYTES)) {
+        body[4..8].copy_from_slice(&sequence.to_be_bytes());
         seal(&key, &previous, &body, record)?;
         previous.copy_from_slice(&record[BODY_BYTES..]);
     }

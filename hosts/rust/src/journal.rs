@@ -18,8 +18,22 @@ extern "C" {
 }
 
 /// Writes the body and its seal to `record`. The previous seal is the one of the record before, and zeros for the first; it and the body's
-/// station, sequence and time are taken on trust, and [`verify`] tests them. Refused, in this order, by `WRONG_LENGTH`, where one of the
-/// four has another length, and `BROKEN_LAYOUT`.
+/// station, sequence and time are taken on trust, and [`verify`] tests them. Refused, in this order, by `WRONG_LENGTH`, where the lengths are
+/// not [`KEY_BYTES`](crate::KEY_BYTES), [`SEAL_BYTES`](crate::SEAL_BYTES), [`BODY_BYTES`](crate::BODY_BYTES) and
+/// [`RECORD_BYTES`](crate::RECORD_BYTES), and `BROKEN_LAYOUT`.
+///
+/// The body, numbers with the high byte first:
+///
+/// | Bytes | Field |
+/// |---|---|
+/// | 0-3 | station |
+/// | 4-7 | sequence: 1 for the first record, then one more each |
+/// | 8-11 | time in seconds; it never falls |
+/// | 12 | kind: 1 lit, 2 failed, 3 change, 4 test |
+/// | 13 | lamp position, 1 to 6 |
+/// | 14-15 | current in milliamperes |
+/// | 16-17 | milliseconds until lit, 0 unless the kind is 3 |
+/// | 18-22 | zero |
 ///
 /// ```
 /// use wilbroged::{seal, verify, Refused, BODY_BYTES, KEY_BYTES, RECORD_BYTES, SEAL_BYTES};
@@ -57,7 +71,8 @@ pub fn seal(key: &[u8], previous: &[u8], body: &[u8], record: &mut [u8]) -> Resu
 /// Checks a journal: no error where every record keeps the layout, follows and has its seal. Refused, in this order, by `WRONG_LENGTH`, of
 /// the key, and `WRONG_JOURNAL_LENGTH`; then record by record, with its index, by `BROKEN_LAYOUT`, `NOT_FOLLOWING` and `DIFFERENT_SEAL`.
 ///
-/// A journal that was cut after a whole record is accepted: compare the count of its records with the one that is expected.
+/// A journal that was cut after a whole record is accepted: compare `journal.len() / RECORD_BYTES` with the number of records that there
+/// should be.
 ///
 /// ```
 /// use wilbroged::{seal, verify, Refused};

@@ -4,6 +4,8 @@
 //! alone. Every width gives the same bytes, and the widest is the fastest. Bit i of a state or a message is in byte i div 8 with weight
 //! 2 to the (7 - i mod 8).
 //!
+//! The package links the archive that `rt staticlib wilbroged` writes, so run that at the repository's root first.
+//!
 //! A call that is refused answers the first refusal that holds, in the order that the function's comment gives, and writes nothing:
 //! [`Refused`] has its number, its place, and a sentence for people. `docs/RULES.md` explains the rules.
 //!

@@ -10,7 +10,8 @@ extern "C" {
 /// Puts the permutation of `state` in its place. Refused, in this order, by `UNKNOWN_INSTANCE`, `UNKNOWN_WIDTH` and `WRONG_LENGTH`, which is
 /// about the bytes of `state`.
 ///
-/// The paper's Appendix B gives a state of U-QUARK and what the permutation makes of it:
+/// The paper's Appendix B gives a state of U-QUARK, the initial one with the padding of the empty message added, and what the permutation
+/// makes of it:
 ///
 /// ```
 /// use wilbroged::{permute, Refused, S_WIDTH, U, U_WIDTH};

@@ -10,7 +10,8 @@ fn compare(key: &[u8], previous: &[u8], body: &[u8], length: usize) -> Result<()
     let (mut record, mut record_expected) = (before.clone(), before.clone());
     let answer = seal(key, previous, body, &mut record);
     let answer_expected = expected::seal(key, previous, body, &mut record_expected);
-    assert_eq!(answer, answer_expected.map(|runs| assert_eq!(runs, 73)).map_err(|number| Refused { number, place: None }));
+    let answer_expected = answer_expected.map(|runs| assert_eq!(runs, 73)).map_err(|number| Refused { number, place: None });
+    assert_eq!(answer, answer_expected, "key {key:02X?}, previous {previous:02X?}, body {body:02X?}");
     assert_eq!(record, record_expected, "key {key:02X?}, previous {previous:02X?}, body {body:02X?}");
     if answer.is_err() {
         assert_eq!(record, before);
