@@ -149,10 +149,19 @@ fn takes(kind: u8, at: usize, bytes: &[u8]) -> bool {
     seal(&[1; KEY_BYTES], &[0; SEAL_BYTES], &body, &mut [0; RECORD_BYTES]).is_ok()
 }
 
-/// The table of the record: what a row allows is what `seal` takes, and the header has the same rows.
+/// The tables of the body in the header and at Rust's `seal`: what stands in each line after the bytes.
+fn body_tables() -> [Vec<(String, String)>; 2] {
+    let (header, rust) = (text("include/wilbroged.h"), text("hosts/rust/src/journal.rs"));
+    let of = |line: Option<(&str, &str)>| line.map(|(bytes, rest)| (bytes.to_string(), rest.trim().to_string()));
+    [
+        header.lines().filter_map(|line| of(line.strip_prefix(" *  ")?.trim().split_once(' '))).collect(),
+        rust.lines().filter_map(|line| of(line.strip_prefix("/// | ")?.split_once(" | "))).collect(),
+    ]
+}
+
+/// The table of the record: what a row allows is what `seal` takes, and the header and Rust have the same rows.
 #[test]
 fn rules_have_the_layout() {
-    let header = text("include/wilbroged.h");
     let mut next = 0;
     for row in rows_below(RULES, "The record") {
         let (bytes, field, allowed) = (&row[0], &row[1], &row[2]);
@@ -182,12 +191,11 @@ fn rules_have_the_layout() {
             }
             _ => panic!("what byte {first} may be is not understood: {allowed}"),
         }
-        if allowed != "-" {
-            let line = header.lines().find_map(|line| line.strip_prefix(" * ")?.trim().strip_prefix(&format!("{bytes} ")));
-            let line = line.unwrap_or_else(|| panic!("the header has no row for the bytes {bytes}"));
-            let range = if allowed.contains(" to ") && !field.contains(':') { allowed } else { "" };
-            let field = if field == "none" { "zero" } else { field };
-            assert!(line.contains(field) && line.contains(range), "the header's row for the bytes {bytes}: {line}");
+        let range = if allowed.contains(" to ") && !field.contains(':') { allowed } else { "" };
+        let field = if field == "none" { "zero" } else { field };
+        for table in body_tables().iter().filter(|_| allowed != "-") {
+            let line = table.iter().find(|line| line.0 == *bytes).unwrap_or_else(|| panic!("a table has no bytes {bytes}"));
+            assert!(line.1.contains(field) && line.1.contains(range), "the bytes {bytes}: {}", line.1);
         }
     }
     assert_eq!(next, RECORD_BYTES);
