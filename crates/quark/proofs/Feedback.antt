@@ -12,25 +12,20 @@ use Rattle.quark.proofs.Taps.{All, all-at, all-map, all-set, all-left, 
 abbrev pub Agree : (X X′ : ℕ → ℕ) → List ℕ → Type 0
 Agree X X′ ts = All (λ t. X t ≡ X′ t) ts
 
--- f's sum without a0, where a k is the bit at tap a_k
-rest : (ℕ → ℕ) → ℕ
-rest a =
-    a 1 + a 2 + a 4 + a 5 + a 6 + a 7 + a 8 + a 9 + a 10 + a 11
-    + a 11 * a 12 + a 6 * a 7 + a 1 * a 3
-    + a 8 * a 10 * a 11 + a 4 * a 5 * a 6
-    + a 1 * a 5 * a 8 * a 12 + a 6 * a 7 * a 10 * a 11 + a 3 * a 4 * a 11 * a 12
-    + a 7 * a 8 * a 10 * a 11 * a 12 + a 1 * a 3 * a 4 * a 5 * a 6
-    + a 4 * a 5 * a 6 * a 7 * a 8 * a 10
+-- the taps but the first
+others : (F : ℕ → Type 0) (ts : List ℕ) → All F (drop 1 ts) → (k : ℕ) → 0 < k → k < length ts → F (getD ts k 0)
+others F [] a k p q = absurd (omega arith)
+others F (t ∷ ts) a zero p q = absurd (omega arith)
+others F (t ∷ ts) a (suc k) p q = all-at F ts a k (le-of-suc-le-suc q)
 
-split : (ts : List ℕ) (X : ℕ → ℕ) → feedback ts X ≡ (X (getD ts 0 0) + rest (λ k. X (getD ts k 0))) % 2
-unfolding feedback rest
-split ts X = omega arith
-
-rest-cong : (a b : ℕ → ℕ) → ((k : ℕ) → 0 < k → k < 13 → a k ≡ b k) → rest a ≡ rest b
-unfolding rest
-rest-cong a b e =
-    let at : (k : ℕ) → k < 12 → a (suc k) ≡ b (suc k) = λ k h. e (suc k) (omega arith) (omega arith) in
-    cc (
+-- with 0 for the bit at a0, and the same bits at every other tap
+pub feedback-first : (ts : List ℕ) → length ts ≡ 13 → (X X′ : ℕ → ℕ) → X′ (getD ts 0 0) ≡ 0 → Agree X X′ (drop 1 ts)
+    → feedback ts X ≡ (X (getD ts 0 0) + feedback ts X′) % 2
+unfolding feedback
+feedback-first ts n X X′ z e =
+    let at : (k : ℕ) → k < 12 → X (getD ts (suc k) 0) ≡ X′ (getD ts (suc k) 0) = λ k h. others (λ t. X t ≡ X′ t) ts e (suc k) (omega arith) (omega arith) in
+    rw (
+      z,
       at 0 (omega arith),
       at 1 (omega arith),
       at 2 (omega arith),
@@ -43,26 +38,27 @@ rest-cong a b e =
       at 9 (omega arith),
       at 10 (omega arith),
       at 11 (omega arith),
-    )
-
--- the taps but the first
-others : (F : ℕ → Type 0) (ts : List ℕ) → All F (drop 1 ts) → (k : ℕ) → 0 < k → k < length ts → F (getD ts k 0)
-others F [] a k p q = absurd (omega arith)
-others F (t ∷ ts) a zero p q = absurd (omega arith)
-others F (t ∷ ts) a (suc k) p q = all-at F ts a k (le-of-suc-le-suc q)
-
--- with 0 for the bit at a0, and the same bits at every other tap
-pub feedback-first : (ts : List ℕ) → length ts ≡ 13 → (X X′ : ℕ → ℕ) → X′ (getD ts 0 0) ≡ 0 → Agree X X′ (drop 1 ts)
-    → feedback ts X ≡ (X (getD ts 0 0) + feedback ts X′) % 2
-feedback-first ts n X X′ z e =
-    let same = rest-cong (λ k. X (getD ts k 0)) (λ k. X′ (getD ts k 0)) (λ k p q. others (λ t. X t ≡ X′ t) ts e k p (omega arith)) in
-    omega (arith, split ts X, split ts X′, same)
+    ) (omega arith)
 
 pub feedback-cong : (ts : List ℕ) → length ts ≡ 13 → (X X′ : ℕ → ℕ) → Agree X X′ ts → feedback ts X ≡ feedback ts X′
+unfolding feedback
 feedback-cong ts n X X′ e =
     let at : (k : ℕ) → k < 13 → X (getD ts k 0) ≡ X′ (getD ts k 0) = λ k h. all-at (λ t. X t ≡ X′ t) ts e k (omega arith) in
-    let same = rest-cong (λ k. X (getD ts k 0)) (λ k. X′ (getD ts k 0)) (λ k p q. at k q) in
-    omega (arith, split ts X, split ts X′, same, at 0 (omega arith))
+    rw (
+      at 0 (omega arith),
+      at 1 (omega arith),
+      at 2 (omega arith),
+      at 3 (omega arith),
+      at 4 (omega arith),
+      at 5 (omega arith),
+      at 6 (omega arith),
+      at 7 (omega arith),
+      at 8 (omega arith),
+      at 9 (omega arith),
+      at 10 (omega arith),
+      at 11 (omega arith),
+      at 12 (omega arith),
+    )
 
 pub sumAt-cong : (X X′ : ℕ → ℕ) (ts : List ℕ) → Agree X X′ ts → sumAt X ts ≡ sumAt X′ ts
 unfolding sumAt
@@ -70,11 +66,11 @@ sumAt-cong X X′ [] e = refl
 sumAt-cong X X′ (t ∷ ts) e = ap₂ (λ (m n : ℕ). m + n) (e .0) (sumAt-cong X X′ ts (e .1))
 
 -- the exchange keeps the taps
-pub length-exchange : (ts : List ℕ) → length (exchange ts) ≡ length ts
+length-exchange : (ts : List ℕ) → length (exchange ts) ≡ length ts
 unfolding exchange
 length-exchange ts = simp length-set
 
-pub first-exchange : (ts : List ℕ) → getD (exchange ts) 0 0 ≡ getD ts 0 0
+first-exchange : (ts : List ℕ) → getD (exchange ts) 0 0 ≡ getD ts 0 0
 unfolding exchange
 first-exchange [] = refl
 first-exchange (t ∷ ts) = refl

@@ -247,6 +247,7 @@ module _ (T : Taps) (lawful : Lawful T) where
         let e : loaded T (stored start) l ≡ start = ap (loaded T (stored start)) (sym same) ∙ loaded-stored start (sized-undoSteps n end z) in
         ap (λ (q : Registers). stored (steps T n q)) e ∙ ap stored (redo-steps n end z) ∙ stored-loaded s (stepsL n l)
 
+  -- P and its inverse, in whatever equal way they write L's start: for that `stepsL` unfolds
   module _ (s : List ℕ) (w : Wide (2 * T .half) s) where
     pub undo-P : undoP T (P T s) ≡ s
     unfolding P undoP stepsL

@@ -3,7 +3,7 @@
 use mathlib.Core.List.{List, [], _∷_, _++_}
 use mathlib.Core.Path.{_≡_, refl, sym, ap, ap₂, _∙_}
 use Prim.Native.Nat.{ℕ, zero, suc, _+_, _*_, _-_, _/_, _%_, _<_}
-use native.Mathlib.Nat.{suc-ne-zero, mod-lt, div-add-mod', mul-mod-left, mul-div-cancel, mul-add-mod-self-right, mod-eq-of-lt}
+use native.Mathlib.Nat.{suc-ne-zero, mod-lt, div-add-mod', mul-mod-left, div-eq-of-lt-le, mul-add-mod-self-right, mod-eq-of-lt}
 use native.Mathlib.Omega.{arith}
 use lib.ListN.{length, replicate, length-append, length-replicate}
 use Rattle.quark.specs.Instance.{Instance}
@@ -64,7 +64,11 @@ module _ (I : Instance) where
 
     pub block-count : blockCount I m ≡ length m / I .r + 1
     unfolding blockCount
-    block-count = ap (λ (k : ℕ). k / I .r) length-pad ∙ mul-div-cancel (length m / I .r + 1) some-rate
+    block-count =
+        let whole = length-pad in
+        let parts = div-add-mod' (length m) (I .r) in
+        let less = mod-lt (length m) some-rate in
+        div-eq-of-lt-le (I .r) (omega arith) (omega arith)
 
     pub length-blocks : length (pad I m) ≡ blockCount I m * I .r
     length-blocks = length-pad ∙ ap (λ (k : ℕ). k * I .r) (sym block-count)

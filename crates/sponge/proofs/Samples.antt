@@ -26,11 +26,14 @@ pub edges :
     × (soundAt 1 0 17 19 0 ≡ false)
     × (soundAt 1 1 17 19 0 ≡ true)
     × (soundAt 1 2 17 19 0 ≡ false)
+    -- the same with 16 bits, a full message: one block more is absorbed, so that 18 runs are one too few
+    × (soundAt 1 1 16 19 0 ≡ true)
+    × (soundAt 1 1 16 18 0 ≡ false)
     × (soundAt 3 0 16777215 524287 255 ≡ true)
     × (soundAt 3 0 16777216 524288 255 ≡ false)
     × (soundAt 2 0 0 0 255 ≡ false)
 unfolding line6 line7 soundAt sound soundRuns allZero stateBytes instanceOf U D S
-edges = (refl, refl, refl, refl, refl, refl, refl, refl, refl, refl, refl, refl, refl, refl)
+edges = (refl, refl, refl, refl, refl, refl, refl, refl, refl, refl, refl, refl, refl, refl, refl, refl)
 
 -- a whole digest that several lines refuse answers the first of them: lines 1, 4, 5 and 6, then 4, 5 and 6, then 5 and 6, then 6 and 7, then 7
 -- alone, and then none

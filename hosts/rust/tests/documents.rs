@@ -19,8 +19,8 @@ fn rows(document: &str) -> Vec<(String, Vec<String>)> {
             heading = line.trim_start_matches('#').trim().to_string();
         }
         let heads = lines.get(i + 1).is_some_and(|next| next.starts_with("|---"));
-        if let Some(row) = line.strip_prefix("| ").filter(|_| !heads) {
-            let cells = row.strip_suffix('|').expect("the end of a row").split('|').map(|cell| cell.trim().to_string());
+        if let Some(row) = line.trim_start().strip_prefix('|').filter(|row| !heads && !row.starts_with("---")) {
+            let cells = row.trim_end().strip_suffix('|').expect("the end of a row").split('|').map(|cell| cell.trim().to_string());
             rows.push((heading.clone(), cells.collect()));
         }
     }
@@ -77,41 +77,59 @@ fn definitions_have_the_same_sentences() {
     assert!(compared >= 12, "{compared} sentences");
 }
 
-/// The numbers in the lines of a definition, `(.., NUMBER)` each, in their order; a number once where it stands several times in a row.
-fn lines_of(file: &str, definition: &str) -> Vec<u32> {
-    let source = text(file);
+const PERMUTE: &str = "permutation/specs/Permute";
+const OUTCOMES: &str = "sponge/specs/Outcomes";
+const LINES: &str = "records/specs/Lines";
+const JOURNAL: &str = "journal/specs/Journal";
+
+/// Lists of lines that definitions join: the name, and where it is defined. The lines of the succession are those of the rules in force.
+const LISTS: [(&str, &str, &str); 6] = [
+    ("frontLines", LINES, "frontLines"),
+    ("layoutLine", LINES, "layoutLine"),
+    ("successionLines", "records/specs/Record", "today"),
+    ("bodyLines", LINES, "bodyLines"),
+    ("sealLine", LINES, "sealLine"),
+    ("recordLines", LINES, "recordLines"),
+];
+
+/// The numbers in the lines of a definition, in their order: a line is `(.., NUMBER)`, and a list that is joined has its own. A number
+/// that stands several times in a row is given once.
+fn lines_of(module: &str, definition: &str) -> Vec<u32> {
+    let source = text(&format!("crates/{module}.antt"));
     let from = source.split_once(&format!("\nunfoldable pub {definition} ")).map(|(_, rest)| rest);
     let body = from.and_then(|rest| rest.split_once('\n')?.1.split("\n\n").next());
-    let body = body.unwrap_or_else(|| panic!("{file} has no {definition}"));
-    let ends = body.match_indices(')').filter_map(|(end, _)| body[..end].rsplit_once(", ")?.1.parse().ok());
-    let mut found: Vec<u32> = ends.collect();
+    let body = body.unwrap_or_else(|| panic!("{module} has no {definition}"));
+    // what stands left of the definition's own equals sign is its name and arguments
+    let body = body.split_once(" =").expect("an equals sign").1;
+    let number = |(end, _): (usize, &str)| Some((end, vec![body[..end].rsplit_once(", ")?.1.parse().ok()?]));
+    let mut parts: Vec<(usize, Vec<u32>)> = body.match_indices(')').filter_map(number).collect();
+    for (name, module, definition) in LISTS {
+        parts.extend(body.match_indices(&format!("{name} ")).map(|(at, _)| (at, lines_of(module, definition))));
+    }
+    parts.sort();
+    let mut found: Vec<u32> = parts.into_iter().flat_map(|part| part.1).collect();
     found.dedup();
-    assert!(!found.is_empty(), "{file} has no lines in {definition}");
+    assert!(!found.is_empty(), "{module} has no lines in {definition}");
     found
 }
 
 /// Each operation, with the order in which it tests its refusals by the definitions that its contract names.
 fn orders() -> Vec<(&'static str, Vec<u32>)> {
-    let (permute, outcomes) = ("crates/permutation/specs/Permute.antt", "crates/sponge/specs/Outcomes.antt");
-    let (lines, record) = ("crates/records/specs/Lines.antt", "crates/records/specs/Record.antt");
-    let (journal, next) = ("crates/journal/specs/Journal.antt", "crates/journal/specs/Next.antt");
-    let front = lines_of(lines, "frontLines");
-    let layout = lines_of(lines, "layoutLine");
-    let of_a_record = [layout.clone(), lines_of(record, "today"), lines_of(lines, "sealLine")].concat();
+    let next = lines_of("journal/specs/Next", "nextNumber");
     vec![
-        ("permute", lines_of(permute, "permuteNumber")),
-        ("invert", lines_of(permute, "permuteNumber")),
-        ("init", lines_of(outcomes, "initNumber")),
-        ("absorb", lines_of(outcomes, "absorbNumber")),
-        ("finish", lines_of(outcomes, "finishNumber")),
-        ("digest", lines_of(outcomes, "digestNumber")),
-        ("seal", [front.clone(), layout].concat()),
-        ("check", [front, of_a_record.clone()].concat()),
-        ("verify", [lines_of(journal, "verifyNumber"), of_a_record].concat()),
-        ("find", lines_of(journal, "findNumber")),
+        ("permute", lines_of(PERMUTE, "permuteNumber")),
+        ("invert", lines_of(PERMUTE, "permuteNumber")),
+        ("init", lines_of(OUTCOMES, "initNumber")),
+        ("absorb", lines_of(OUTCOMES, "absorbNumber")),
+        ("finish", lines_of(OUTCOMES, "finishNumber")),
+        ("digest", lines_of(OUTCOMES, "digestNumber")),
+        ("seal", lines_of("records/specs/Sealing", "sealNumber")),
+        ("check", lines_of("records/specs/Check", "checkNumber")),
+        ("verify", [lines_of(JOURNAL, "verifyNumber"), lines_of(JOURNAL, "recordNumber")].concat()),
+        ("find", lines_of(JOURNAL, "findNumber")),
         ("find_refusal", vec![]),
-        ("Reader::next", lines_of(next, "nextNumber")),
-        ("next_at", lines_of(next, "nextNumber")),
+        ("Reader::next", next.clone()),
+        ("next_at", next),
         ("report", vec![]),
     ]
 }

@@ -10,7 +10,7 @@ use reference::random::Random;
 use std::fs::File;
 use std::io::{ErrorKind, Read, Write};
 use std::os::fd::OwnedFd;
-use std::os::unix::net::UnixStream;
+use std::os::unix::net::{UnixDatagram, UnixStream};
 use std::path::PathBuf;
 use std::process::{Command, Stdio};
 
@@ -201,14 +201,27 @@ fn extreme_fields() {
     }
 }
 
+/// What the program prints for an input of which every read gives one part: a datagram each, and an empty one for the end.
+fn printed_part_by_part(input: &[u8], at_a_time: usize) -> String {
+    let (ours, theirs) = UnixDatagram::pair().unwrap();
+    let child = Command::new(program()).stdin(OwnedFd::from(theirs)).stdout(Stdio::piped()).stderr(Stdio::piped()).spawn().unwrap();
+    input.chunks(at_a_time).for_each(|part| assert_eq!(ours.send(part).unwrap(), part.len()));
+    ours.send(&[]).unwrap();
+    let done = child.wait_with_output().unwrap();
+    assert!(done.status.success() && done.stderr.is_empty());
+    String::from_utf8(done.stdout).unwrap()
+}
+
 /// An input that comes in small parts is read to its end.
 #[test]
 fn a_slow_pipe() {
     let whole = lawful(46, 5);
     for at_a_time in [1, 7, 16, 39] {
-        assert_eq!(printed(&whole, at_a_time), "accepted 5 365\n");
-        assert_eq!(printed(&whole[..whole.len() - 1], at_a_time), "refused 9 0\n");
+        assert_eq!(printed_part_by_part(&whole, at_a_time), "accepted 5 365\n");
+        assert_eq!(printed_part_by_part(&whole[..whole.len() - 1], at_a_time), "refused 9 0\n");
     }
+    let longest = lawful(40, 1_600);
+    assert_eq!(printed_part_by_part(&longest, 1_000), "accepted 1600 116800\n");
 }
 
 #[test]

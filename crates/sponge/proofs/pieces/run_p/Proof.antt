@@ -2,7 +2,6 @@
 use mathlib.Core.List.{List, _++_}
 use mathlib.Core.Path.{_≡_, sym, ap, _∙_}
 use Prim.Native.Nat.{ℕ, _≤_}
-use native.Mathlib.Numerals.{add-one}
 use native.Mathlib.Omega.{arith}
 use borrow.Author.Needs.{needs}
 use lib.ListN.{length, take, drop}
@@ -51,7 +50,7 @@ returns c =
     let n : length (s .bits) ≡ 32 = search needs in
     let m : length (take (size .result) (s .bits)) ≡ stateBytes (s .instance) =
     length-take-le (size .result) (s .bits) (front (c .before .before .before .before .before)) ∙ size .ensures in
-    with-sponge s (runP (instanceOf (s .instance)) (contentOf s .sponge)) (add-one (s .runs))
+    with-sponge s (runP (instanceOf (s .instance)) (contentOf s .sponge)) (omega arith)
     (ap (λ (l : List ℕ). l ++ drop (size .result) (s .bits))
     (c .before .before .permute .ensures .1 ∙ permute-accepted (s .instance) _ (take (size .result) (s .bits)) (ready .is-instance) (search ready) m)
     ∙ ap (λ (k : ℕ). onBytes P (s .instance) (take k (s .bits)) ++ drop k (s .bits)) (size .ensures)
