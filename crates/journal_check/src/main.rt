@@ -1,5 +1,5 @@
-// The check program (document 01, "Record and journal"): reads a key and then a journal from standard input, and prints one line, `accepted`, records and
-// runs, or `refused`, number and place. Where reading or writing fails, a line on standard error says so.
+// The check program (document 01, "Record and journal"): reads a key and then a journal from standard input, and prints one line, `accepted`,
+// records and runs, or `refused`, number and place. Where reading or writing fails, a line on standard error says so.
 //
 // What `report` answers is proved. The loop that reads is proved to be safe and to end, and the buffer to have the size that the law
 // `FirstBytes.report-of-first` of `journal` asks for; that the loop gathers the input, and tells a failed read from its end, no contract of

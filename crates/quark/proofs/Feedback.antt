@@ -18,14 +18,13 @@ others F [] a k p q = absurd (omega arith)
 others F (t ∷ ts) a zero p q = absurd (omega arith)
 others F (t ∷ ts) a (suc k) p q = all-at F ts a k (le-of-suc-le-suc q)
 
--- with 0 for the bit at a0, and the same bits at every other tap
-pub feedback-first : (ts : List ℕ) → length ts ≡ 13 → (X X′ : ℕ → ℕ) → X′ (getD ts 0 0) ≡ 0 → Agree X X′ (drop 1 ts)
-    → feedback ts X ≡ (X (getD ts 0 0) + feedback ts X′) % 2
+-- with the same bits at every other tap, two sums differ as the bits at a0 do
+feedback-apart : (ts : List ℕ) → length ts ≡ 13 → (X X′ : ℕ → ℕ) → Agree X X′ (drop 1 ts)
+    → (X′ (getD ts 0 0) + feedback ts X) % 2 ≡ (X (getD ts 0 0) + feedback ts X′) % 2
 unfolding feedback
-feedback-first ts n X X′ z e =
+feedback-apart ts n X X′ e =
     let at : (k : ℕ) → k < 12 → X (getD ts (suc k) 0) ≡ X′ (getD ts (suc k) 0) = λ k h. others (λ t. X t ≡ X′ t) ts e (suc k) (omega arith) (omega arith) in
     rw (
-      z,
       at 0 (omega arith),
       at 1 (omega arith),
       at 2 (omega arith),
@@ -40,25 +39,18 @@ feedback-first ts n X X′ z e =
       at 11 (omega arith),
     ) (omega arith)
 
-pub feedback-cong : (ts : List ℕ) → length ts ≡ 13 → (X X′ : ℕ → ℕ) → Agree X X′ ts → feedback ts X ≡ feedback ts X′
+feedback-bit : (ts : List ℕ) (X : ℕ → ℕ) → feedback ts X < 2
 unfolding feedback
-feedback-cong ts n X X′ e =
-    let at : (k : ℕ) → k < 13 → X (getD ts k 0) ≡ X′ (getD ts k 0) = λ k h. all-at (λ t. X t ≡ X′ t) ts e k (omega arith) in
-    rw (
-      at 0 (omega arith),
-      at 1 (omega arith),
-      at 2 (omega arith),
-      at 3 (omega arith),
-      at 4 (omega arith),
-      at 5 (omega arith),
-      at 6 (omega arith),
-      at 7 (omega arith),
-      at 8 (omega arith),
-      at 9 (omega arith),
-      at 10 (omega arith),
-      at 11 (omega arith),
-      at 12 (omega arith),
-    )
+feedback-bit ts X = omega arith
+
+-- with 0 for the bit at a0
+pub feedback-first : (ts : List ℕ) → length ts ≡ 13 → (X X′ : ℕ → ℕ) → X′ (getD ts 0 0) ≡ 0 → Agree X X′ (drop 1 ts)
+    → feedback ts X ≡ (X (getD ts 0 0) + feedback ts X′) % 2
+feedback-first ts n X X′ z e = omega (arith, feedback-apart ts n X X′ e, feedback-bit ts X)
+
+pub feedback-cong : (ts : List ℕ) → length ts ≡ 13 → (X X′ : ℕ → ℕ) → Agree X X′ ts → feedback ts X ≡ feedback ts X′
+feedback-cong [] n X X′ e = absurd (omega arith)
+feedback-cong (t ∷ ts) n X X′ e = omega (arith, feedback-apart (t ∷ ts) n X X′ (e .1), feedback-bit (t ∷ ts) X, feedback-bit (t ∷ ts) X′, e .0)
 
 pub sumAt-cong : (X X′ : ℕ → ℕ) (ts : List ℕ) → Agree X X′ ts → sumAt X ts ≡ sumAt X′ ts
 unfolding sumAt

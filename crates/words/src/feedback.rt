@@ -193,8 +193,8 @@ pub fn products_s(x: Register, y: Register) -> StepBits
     }
 }
 
-// The sum of the bits of a register at the places of a mask: how many ones are under it, modulo 2. The two words are added before the ones are
-// counted, since the parity of a sum is the sum of the parities.
+// The sum of the bits of a register at the places of a mask: how many ones are under it, modulo 2. The two words are added before the ones
+// are counted, since the parity of a sum is the sum of the parities.
 fn parity(r: Register, mask: Register) -> u64
     ensures { λ b. ⌜ b ≡ sumAt (wordBit (value r)) (placesFrom 128 0 (value mask)) % 2 ⌝ }
 {

@@ -1,5 +1,5 @@
-// Groups of steps taken together, eight of any instance or sixteen of S (document 01, "Steps, permutation and inverse"). A group takes the new
-// bits of all its steps from the old registers, which the half allows: highest tap + width is at most the half. L alone is extended in
+// Groups of steps taken together, eight of any instance or sixteen of S (document 01, "Steps, permutation and inverse"). A group takes the
+// new bits of all its steps from the old registers, which the half allows: highest tap + width is at most the half. L alone is extended in
 // strides.
 ghost use mathlib.Core.Path.{_≡_};
 ghost use Prim.Native.Nat.{_+_, _*_, _%_, _^_, _≤_, _<_};
