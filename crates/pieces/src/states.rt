@@ -19,6 +19,7 @@ pub fn forged(instance: u32, phase: u32, total: u32, runs: u32, bits: [u8; 32]) 
         phase,
         total,
         runs,
+        extra: 0,
         bits,
     }
 }

@@ -72,6 +72,13 @@ module _ (I : Instance) (R : Regular I) where
   total-take-bits h [] = sym (add-zero (h .total))
   total-take-bits h (x ∷ xs) = total-take-bits (takeBit I h x) xs ∙ omega arith
 
+  -- ---- the extra blocks stay
+
+  pub extra-take-bits : (h : Content) (xs : List ℕ) → takeBits I h xs .extra ≡ h .extra
+  unfolding takeBits takeBit
+  extra-take-bits h [] = refl
+  extra-take-bits h (x ∷ xs) = extra-take-bits (takeBit I h x) xs
+
   -- ---- the runs: total div r while bits are taken, and n/r more by a finish
 
   runs-take-bit : (h : Content) (x : ℕ) → h .sponge .runs ≡ h .total / I .r → takeBit I h x .sponge .runs ≡ takeBit I h x .total / I .r

@@ -36,18 +36,19 @@ permute-accepted i w l is-instance wide e = sym (accepted-bytes P i w 0 l (sym (
 
 -- in runs and bytes, from a state s
 pub with-sponge : (s : State) (c : Counted) {runs : ℕ} {bytes : List ℕ} → runs ≡ c .runs → bytes ≡ bytesOf 32 (c .bits)
-    → _≡_ {A = State} (record { instance = s .instance; phase = s .phase; total = s .total; runs = runs; bits = bytes }) (withSponge s c)
+    → _≡_ {A = State} (record { instance = s .instance; phase = s .phase; total = s .total; runs = runs; extra = s .extra; bits = bytes }) (withSponge s c)
 unfolding withSponge stateWith contentOf
-with-sponge s c e f k = record { instance = s .instance; phase = s .phase; total = s .total; runs = e k; bits = f k }
+with-sponge s c e f k = record { instance = s .instance; phase = s .phase; total = s .total; runs = e k; extra = s .extra; bits = f k }
 
--- in phase and total
-abbrev pub changed : (phase total : ℕ) → State → State
-changed phase total s = record { instance = s .instance; phase = phase; total = total; runs = s .runs; bits = s .bits }
+-- in phase, total and extra blocks
+abbrev pub changed : (phase total extra : ℕ) → State → State
+changed phase total extra s = record { instance = s .instance; phase = phase; total = total; runs = s .runs; extra = extra; bits = s .bits }
 
-pub with-changed : (phase total : State → ℕ) (s t : State) (c : Counted) → t ≡ withSponge s c
-    → changed (phase t) (total t) t ≡ stateWith (s .instance) (phase (withSponge s c)) (record { total = total (withSponge s c); sponge = c })
+pub with-changed : (phase total extra : State → ℕ) (s t : State) (c : Counted) → t ≡ withSponge s c
+    → changed (phase t) (total t) (extra t) t
+    ≡ stateWith (s .instance) (phase (withSponge s c)) (record { total = total (withSponge s c); extra = extra (withSponge s c); sponge = c })
 unfolding withSponge stateWith contentOf
-with-changed phase total s t c e = ap (λ (x : State). changed (phase x) (total x) x) e
+with-changed phase total extra s t c e = ap (λ (x : State). changed (phase x) (total x) (extra x) x) e
 
 -- ---- what a state holds
 
@@ -88,7 +89,7 @@ module _ (s : State) (x : ℕ) where
 
   -- what it holds once the bit is added and counted
   abbrev pub counted : Content
-  counted = record { total = s .total + 1; sponge = added }
+  counted = record { total = s .total + 1; extra = s .extra; sponge = added }
 
   -- the bit is the last of its block, and P runs
   pub take-bit-runs : (t : State) → t ≡ stateWith (s .instance) (s .phase) counted

@@ -4,16 +4,17 @@ use mathlib.Core.Path.{_≡_, refl, sym, _∙_}
 use Prim.Native.Nat.{ℕ, _+_, _*_, _≤_}
 use native.Mathlib.Omega.{arith}
 use borrow.Author.Tests.{ltb-false, not-false}
+use lib.Dec.{ltb}
 use Rattle.refusals.specs.Outcome.{accepted, refused}
-use Rattle.refusals.proofs.FirstLine.{none-holds, right-length}
+use Rattle.refusals.proofs.FirstLine.{none-holds, neither, right-length}
 use Rattle.refusals.proofs.Outcome.{refused-outcome, accepted-outcome, refused-left, accepted-left}
 use Rattle.quark.specs.Instance.{isInstance, isWidth, stateBytes}
 use Rattle.permutation.specs.Lines.{line1, line4}
 use Rattle.sponge.specs.declared.State.{State}
-use Rattle.sponge.specs.Soundness.{limit, sound}
-use Rattle.sponge.specs.Outcomes.{Result, resultBy, line2, line3, line6, line7, absorbNumber, finishNumber, digestNumber}
+use Rattle.sponge.specs.Soundness.{limit, extraLimit, sound}
+use Rattle.sponge.specs.Outcomes.{Result, resultBy, line2, line3, line3Squeeze, line6, line7, line14, line15, blocksBytes, absorbNumber, finishNumber, squeezeNumber, digestNumber}
 use Rattle.sponge.specs.leaf.Ready.{Ready}
-use Rattle.sponge.proofs.Soundness.{Absorbing, absorbing}
+use Rattle.sponge.proofs.Soundness.{Absorbing, absorbing, Closed, closed}
 
 -- ---- a piece and a finish
 
@@ -60,6 +61,31 @@ finish-passed s w buffer e =
     let none = none-holds _ refl e in
     let p = state-passed s w (search none) (search none) (search none) (search none) in
     record { state = p .state; ready = p .ready; fits = right-length buffer (stateBytes (s .instance)) (search none) }
+
+-- ---- a squeeze
+
+pub record SqueezePassed (s : State) (w k buffer : ℕ) : Type 0 where
+  pub state : Closed s
+  pub ready : Ready s w
+  pub fits : buffer ≡ blocksBytes (s .instance) k
+  pub some : 1 ≤ k
+  pub at-most : k ≤ 1024
+  pub room : s .extra + k ≤ extraLimit
+
+pub squeeze-passed : (s : State) (w k buffer : ℕ) → squeezeNumber s w k buffer ≡ 0 → SqueezePassed s w k buffer
+unfolding squeezeNumber line1 line2 line3Squeeze line4 line14 line15
+squeeze-passed s w k buffer e =
+    let none = none-holds _ refl e in
+    let state = closed s (not-false (sound s) (search none)) (search none) in
+    let range = neither (ltb k 1) (ltb 1024 k) (search none) in
+    record {
+      state = state;
+      ready = record { is-instance = not-false (isInstance (s .instance)) (search none); width = not-false (isWidth (s .instance) w) (search none); zero-past = state .zeros };
+      fits = right-length buffer (blocksBytes (s .instance) k) (search none);
+      some = ltb-false k 1 (range .0);
+      at-most = ltb-false 1024 k (range .1);
+      room = ltb-false extraLimit (s .extra + k) (search none);
+    }
 
 -- ---- the whole digest
 

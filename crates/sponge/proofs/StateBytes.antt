@@ -1,13 +1,13 @@
 -- A state's 32 bytes and its b bits: they determine each other where every byte from b/8 on is zero; and what the code does to the bytes
 -- is what the definition does to the bits.
-use mathlib.Core.Bool.{true, and-eq-true-iff}
+use mathlib.Core.Bool.{true, not, _||_, and-eq-true-iff}
 use mathlib.Core.List.{List, [], _∷_, _++_, append-nil}
 use mathlib.Core.Path.{_≡_, refl, sym, ap, ap₂, _∙_, subst}
 use Prim.Native.Nat.{ℕ, zero, suc, _+_, _*_, _-_, _/_, _%_, _^_, _<_, _≤_}
-use native.Mathlib.Nat.{add-zero, add-assoc, mod-add-mod, mod-mod, mul-div-cancel, mod-eq-of-lt, div-eq-of-lt, mul-assoc, pow-suc, mul-le-mul, mul-le-mul-right, min-le-left}
+use native.Mathlib.Nat.{div-add-mod', add-zero, add-assoc, mod-add-mod, mod-mod, mul-div-cancel, mod-eq-of-lt, div-eq-of-lt, mul-assoc, pow-suc, mul-le-mul, mul-le-mul-right, min-le-left}
 use native.Mathlib.Decide.{decLt, ℕ-discrete}
 use native.Mathlib.Omega.{arith}
-use borrow.Author.Tests.{eqb-true, eq-eqb}
+use borrow.Author.Tests.{eqb-true, eq-eqb, ne-eqb}
 use lib.Bits.{bitXor, xor-lt}
 use lib.Dec.{eqb}
 use lib.ListN.{length, getD, set, take, drop, replicate, length-drop, length-take, length-set, take-append-drop, List·getD-eq-default, length-replicate}
@@ -24,6 +24,7 @@ use Rattle.quark.proofs.Word.{wordBit-xor}
 use Rattle.permutation.specs.Permute.{onBytes}
 use Rattle.sponge.specs.Soundness.{allZero}
 use Rattle.sponge.specs.leaf.Ready.{lastBytes}
+use Rattle.sponge.proofs.Taking.{divided}
 
 -- every element is a byte
 abbrev pub Bytes : List ℕ → Type 0
@@ -33,6 +34,26 @@ Bytes l = (j : ℕ) → getD l j 0 < 256
 pub whole-rate : (i : ℕ) → instanceOf i .r ≡ 8 * (instanceOf i .r / 8)
 unfolding U D S
 whole-rate = of-each (λ I. I .r ≡ 8 * (I .r / 8)) refl refl refl
+
+-- and at least one
+pub some-block-bytes : (i : ℕ) → 0 < instanceOf i .r / 8
+some-block-bytes i = omega (arith, regular i .some-rate, whole-rate i)
+
+-- a length is k parts of q exactly when it divides into k and leaves nothing
+pub whole-parts : (q n k : ℕ) → 0 < q → (not (eqb (n % q) 0) || not (eqb (n / q) k)) ≡ not (eqb n (k * q))
+whole-parts q n k some = elim (ℕ-discrete n (k * q)) [ yes e ↦ parts e | no d ↦ rw (ne-eqb n (k * q) d) (rest d) ]
+  where
+    parts : n ≡ k * q → (not (eqb (n % q) 0) || not (eqb (n / q) k)) ≡ not (eqb n (k * q))
+    parts e =
+        let d = divided q k 0 n some (e ∙ sym (add-zero (k * q))) in
+        rw (eq-eqb n (k * q) e, eq-eqb (n % q) 0 (d .1), eq-eqb (n / q) k (d .0))
+
+    rest : (n ≡ k * q → ⊥) → (not (eqb (n % q) 0) || not (eqb (n / q) k)) ≡ true
+    rest d =
+        elim (ℕ-discrete (n % q) 0) [
+          | yes z ↦ rw (eq-eqb (n % q) 0 z, ne-eqb (n / q) k (λ e. d (sym (div-add-mod' n q) ∙ ap₂ (λ (a b : ℕ). a * q + b) e z ∙ add-zero (k * q))))
+          | no z ↦ rw (ne-eqb (n % q) 0 z)
+        ]
 
 -- so is what stands before the last
 pub whole-front : (i : ℕ) → 8 * ((instanceOf i .b - instanceOf i .r) / 8) ≡ instanceOf i .b - instanceOf i .r

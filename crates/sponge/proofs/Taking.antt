@@ -28,10 +28,10 @@ divided r q k n h e = (
 
 -- what is held of an open message, by its blocks
 unfoldable pub openContent : Instance → List ℕ → Content
-openContent I m = record { total = length m; sponge = absorbing I m }
+openContent I m = record { total = length m; extra = 0; sponge = absorbing I m }
 
 unfoldable pub closedContent : Instance → List ℕ → Content
-closedContent I m = record { total = length m; sponge = closed I m }
+closedContent I m = record { total = length m; extra = 0; sponge = closed I m }
 
 module _ (I : Instance) (R : Regular I) where
   -- adding nothing
@@ -85,7 +85,7 @@ module _ (I : Instance) (R : Regular I) where
         let d = divided (I .r) (suc (length m / I .r)) 0 (length m + 1) (R .some-rate) (omega (arith, whole-part)) in
         let full : length l / I .r ≡ suc (length m / I .r) = ap (λ (k : ℕ). k / I .r) (length-snoc x) ∙ d .0 in
         let added = addBit I (bitIndex I (length m)) x (absorbing I m) in
-        ap₂ (λ (n : ℕ) (c : Counted). record { total = n; sponge = c }) (sym (length-snoc x))
+        ap₂ (λ (n : ℕ) (c : Counted). record { total = n; extra = 0; sponge = c }) (sym (length-snoc x))
         (ap (λ (t : Bool). cond t (runP I added) added) (eq-eqb ((length m + 1) % I .r) 0 (d .1))
         ∙ ap (runP I) (add-next x 0 (omega (arith, part-lt)))
         ∙ sym (absorb-nil (before I l (suc (length m / I .r))))
@@ -101,7 +101,7 @@ module _ (I : Instance) (R : Regular I) where
         let d = divided (I .r) (length m / I .r) (suc (length m % I .r)) (length m + 1) h (omega (arith, whole-part)) in
         let same : length l / I .r ≡ length m / I .r = ap (λ (k : ℕ). k / I .r) (length-snoc x) ∙ d .0 in
         let added = addBit I (bitIndex I (length m)) x (absorbing I m) in
-        ap₂ (λ (n : ℕ) (c : Counted). record { total = n; sponge = c }) (sym (length-snoc x))
+        ap₂ (λ (n : ℕ) (c : Counted). record { total = n; extra = 0; sponge = c }) (sym (length-snoc x))
         (ap (λ (t : Bool). cond t (runP I added) added) (ne-eqb ((length m + 1) % I .r) 0 (λ z. suc-ne-zero (length m % I .r) (sym (d .1) ∙ z)))
         ∙ add-next x 0 (omega (arith, h))
         ∙ ap (λ (k : ℕ). absorb I (before I l k) (block I l k)) (sym same))

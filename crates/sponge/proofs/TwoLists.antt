@@ -1,22 +1,24 @@
--- Demand 3: the state after a list is the one that the list's message determines, and two closed states are compared by the definition's
+-- Demand 3: the state after a list is the one that the list's message and extras determine, and two closed states are compared by the definition's
 -- sponge over the two messages.
-use mathlib.Core.Bool.{Bool, true, cond}
+use mathlib.Core.Bool.{true}
 use mathlib.Core.List.{List, [], _∷_}
 use mathlib.Core.Logic.{_↔_, _⊎_}
 use mathlib.Core.Path.{_≡_, refl, sym, ap, _∙_, subst}
 use Prim.Native.Nat.{ℕ}
 use Rattle.quark.specs.Bytes.{bitsOf}
 use Rattle.quark.specs.Instance.{instanceOf, isInstance}
-use Rattle.quark.specs.Sponge.{pad, blockCount, absorbing, closed}
+use Rattle.quark.specs.Sponge.{Counted, pad, blockCount, squeezed, closed}
 use Rattle.quark.specs.CloseAlike.{CloseAlike, OnlyDiffering, Meet}
+use Rattle.quark.proofs.Blocks.{wide-closed}
 use Rattle.quark.proofs.CloseAlike.{close-alike, one-block-apart}
+use Rattle.quark.proofs.Forward.{squeezed-same, squeezed-injective}
 use Rattle.quark.proofs.Instance.{regular}
 use Rattle.sponge.specs.declared.State.{State}
 use Rattle.sponge.specs.Soundness.{stateWith}
 use Rattle.sponge.specs.Calls.{Call, stateNumber, after, runFrom, run, Message, empty, messageNumber, extended, extendedBy, messageOf}
 use Rattle.sponge.specs.TwoLists.{spongeOf, Follows, RunFollows, AnswersFollow, bitsIn, Comparable, ListsCloseAlike, TwoLists, OneBlockApart, Demand3}
 use Rattle.sponge.proofs.StateBytes.{bits-content}
-use Rattle.sponge.proofs.Messages.{stateOf, wide-sponge, sound-message, init-empty, Admissible, admissible-empty, refused-adds-nothing, refused-keeps, same-number, after-call, admissible-after}
+use Rattle.sponge.proofs.Messages.{stateOf, wide-sponge, sponge-closed, sound-message, init-empty, Admissible, admissible-empty, refused-adds-nothing, refused-keeps, same-number, after-call, admissible-after}
 
 -- ---- one list
 
@@ -42,11 +44,12 @@ module _ (i : ℕ) (is-instance : isInstance i ≡ true) where
         let m = messageOf i calls in
         subst (Follows i m) (sym (run-state .0))
         (record {
-          is-sound = sound-message i m (run-state .1 .within);
+          is-sound = sound-message i m (run-state .1);
           instance-is = refl;
           phase-is = refl;
           total-is = refl;
           runs-are = refl;
+          extra-is = refl;
           bits-are = bits-content i (spongeOf i m .bits) (wide-sponge i m);
         })
 
@@ -60,10 +63,9 @@ module _ (i : ℕ) (is-instance : isInstance i ≡ true) where
         (refused-keeps (run i calls) call refused, refused-adds-nothing i (messageOf i calls) call (λ z. refused (answers call ∙ z)))
 
     -- the bits of a closed state
-    closed-bits : messageOf i calls .closed ≡ true → bitsOf (instanceOf i .b) (run i calls .bits) ≡ closed (instanceOf i) (bitsIn i calls) .bits
-    unfolding spongeOf
-    closed-bits e =
-        follows .bits-are ∙ ap (λ (c : Bool). cond c (closed (instanceOf i) (bitsIn i calls)) (absorbing (instanceOf i) (bitsIn i calls)) .bits) e
+    closed-bits : messageOf i calls .closed ≡ true
+        → bitsOf (instanceOf i .b) (run i calls .bits) ≡ squeezed (instanceOf i) (messageOf i calls .extras) (closed (instanceOf i) (bitsIn i calls)) .bits
+    closed-bits e = follows .bits-are ∙ ap (λ (c : Counted). c .bits) (sponge-closed i (messageOf i calls) e)
 
 -- ---- two lists
 
@@ -74,13 +76,19 @@ module _ (i : ℕ) (calls calls′ : List Call) (both : Comparable i calls calls
   abbrev m′ : List ℕ
   m′ = bitsIn i calls′
 
-  -- two lists close alike exactly when their messages do
+  -- two lists close alike exactly when their messages do: as many extra blocks neither join states nor part them
   messages-alike : ListsCloseAlike i calls calls′ ↔ CloseAlike (instanceOf i) m m′
   unfolding ListsCloseAlike
   messages-alike =
+      let I = instanceOf i in
+      let e = messageOf i calls .extras in
+      let s = closed I m in
+      let t = closed I m′ in
       let left = closed-bits i (both .is-instance) calls (both .closes) in
-      let right = closed-bits i (both .is-instance) calls′ (both .closes′) in
-      (λ p. sym left ∙ p ∙ right, λ p. left ∙ p ∙ sym right)
+      let right = closed-bits i (both .is-instance) calls′ (both .closes′) ∙ ap (λ (n : ℕ). squeezed I n t .bits) (sym (both .equal-extras)) in (
+        λ p. squeezed-injective I (regular i) e s t (wide-closed I (regular i) m) (wide-closed I (regular i) m′) (sym left ∙ p ∙ right),
+        λ p. left ∙ squeezed-same I e s t p ∙ sym right,
+      )
 
   two : ListsCloseAlike i calls calls′ ↔ (m ≡ m′) ⊎ Meet (instanceOf i) m m′
   two =

@@ -17,7 +17,7 @@ use Rattle.quark.proofs.Instance.{regular}
 use Rattle.permutation.specs.Lines.{line4}
 use Rattle.sponge.specs.declared.State.{State}
 use Rattle.sponge.specs.Taking.{Content, takeBits, finishOutput}
-use Rattle.sponge.specs.Soundness.{limit, absorbingPhase, contentOf, stateWith, fresh}
+use Rattle.sponge.specs.Soundness.{limit, absorbingPhase, mostExtra, contentOf, stateWith, fresh}
 use Rattle.sponge.specs.Outcomes.{line6, line7, initResult, absorbNumber, absorbResult, finishNumber, finishBytes, digestNumber, digestBytes}
 use Rattle.sponge.specs.Calls.{piece, finish, stateNumber, after, Message, empty, messageNumber, grown}
 use Rattle.sponge.specs.TwoLists.{phaseOf, spongeOf}
@@ -29,7 +29,7 @@ use Rattle.sponge.proofs.Passed.{DigestPassed, digest-passed}
 
 -- an open message
 abbrev opened : List ℕ → Message
-opened m = record { bits = m; closed = false }
+opened m = record { bits = m; closed = false; extras = 0 }
 
 -- ---- what `fresh`, `take_bits` and `close` make
 
@@ -52,7 +52,7 @@ module _ (i : ℕ) (f : State) (ef : f ≡ fresh i) where
   unfolding stateOf stateWith spongeOf phaseOf openContent
   whole-message m =
       ap (λ (s : State). stateWith (s .instance) (s .phase) (takeBits (instanceOf (s .instance)) (contentOf s) m)) (ef ∙ fresh-empty i)
-      ∙ ap (λ (h : Content). stateWith i absorbingPhase (takeBits (instanceOf i) h m)) (content-open i empty refl)
+      ∙ ap (λ (h : Content). stateWith i absorbingPhase (takeBits (instanceOf i) h m)) (content-open i empty refl refl)
       ∙ ap (stateWith i absorbingPhase) (take-bits (instanceOf i) (regular i) [] m)
 
 pub whole-digest : (i : ℕ) (m : List ℕ) (t : State) → t ≡ stateOf i (opened m)
@@ -60,7 +60,7 @@ pub whole-digest : (i : ℕ) (m : List ℕ) (t : State) → t ≡ stateOf i (ope
 unfolding stateOf stateWith
 whole-digest i m t e =
     ap (λ (s : State). bytesOf (stateBytes (s .instance)) (finishOutput (instanceOf (s .instance)) (contentOf s))) e
-    ∙ ap (bytesOf (stateBytes i)) (ap (finishOutput (instanceOf i)) (content-open i (opened m) refl) ∙ finish-digest (instanceOf i) (regular i) m)
+    ∙ ap (bytesOf (stateBytes i)) (ap (finishOutput (instanceOf i)) (content-open i (opened m) refl refl) ∙ finish-digest (instanceOf i) (regular i) m)
 
 -- ---- digest is init, one absorb and finish
 
@@ -72,7 +72,8 @@ module _ (i w : ℕ) (bytes : List ℕ) (count : ℕ) (buffer : List ℕ) (none 
   m = bitsOf count bytes
 
   admissible-m : Admissible (opened m)
-  admissible-m = record { within = omega (arith, wide-bitsOf count bytes .0, p .room); of-bits = wide-bitsOf count bytes .1 }
+  unfolding phaseOf mostExtra
+  admissible-m = record { within = omega (arith, wide-bitsOf count bytes .0, p .room); extras-within = omega arith; of-bits = wide-bitsOf count bytes .1 }
 
   -- on messages: the piece is taken, and the finish closes
   piece-accepted : messageNumber i empty (piece bytes count w) ≡ 0

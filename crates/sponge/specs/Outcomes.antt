@@ -1,8 +1,8 @@
--- What each operation answers, for every input (document 01, "Pieces and finish"; the lines are those of docs/RULES.md). Where a call is
+-- What each operation answers, for every input (document 01, "Pieces and finish"; document 02, 2.1; the lines are those of docs/RULES.md). Where a call is
 -- refused, the lent bytes are as they were, and so is the state, where one was given.
-use mathlib.Core.Bool.{Bool, not, cond}
+use mathlib.Core.Bool.{Bool, not, _||_, cond}
 use mathlib.Core.List.{List, [], _∷_}
-use Prim.Native.Nat.{ℕ, _+_, _*_, _-_, _%_}
+use Prim.Native.Nat.{ℕ, _+_, _*_, _-_, _/_, _%_}
 use lib.Dec.{ltb, eqb}
 use lib.ListN.{length}
 use Rattle.refusals.specs.Lines.{firstLine, line5}
@@ -13,8 +13,8 @@ use Rattle.quark.specs.Sponge.{digest}
 use Rattle.permutation.specs.Lines.{line1, line4}
 use Rattle.sponge.specs.declared.State.{State}
 use Rattle.sponge.specs.declared.Reply.{Reply}
-use Rattle.sponge.specs.Taking.{takeBits, finishOutput, finished}
-use Rattle.sponge.specs.Soundness.{limit, absorbingPhase, closedPhase, sound, contentOf, stateWith, fresh, allZeros}
+use Rattle.sponge.specs.Taking.{takeBits, finishOutput, finished, squeezeOutput, extraSqueezed}
+use Rattle.sponge.specs.Soundness.{limit, extraLimit, absorbingPhase, closedPhase, sound, contentOf, stateWith, fresh, allZeros}
 
 -- ---- the lines
 
@@ -22,9 +22,13 @@ use Rattle.sponge.specs.Soundness.{limit, absorbingPhase, closedPhase, s
 unfoldable pub line2 : State → Bool
 line2 s = not (sound s)
 
--- 3. The state is closed and takes nothing more.
+-- 3. The state is closed and takes nothing more, or it is absorbing and gives out no extra blocks yet. A piece and a finish are refused by a
+-- closed state, and a squeeze by an absorbing one.
 unfoldable pub line3 : State → Bool
 line3 s = eqb (s .phase) closedPhase
+
+unfoldable pub line3Squeeze : State → Bool
+line3Squeeze s = eqb (s .phase) absorbingPhase
 
 -- 6. There are fewer bits than the count says.
 unfoldable pub line6 : (bytes count : ℕ) → Bool
@@ -37,6 +41,14 @@ line7 total count = ltb limit (total + count)
 -- 8. The padded message does not end with a whole block.
 unfoldable pub line8 : (i total : ℕ) → Bool
 line8 i total = not (eqb ((total + 1 + (instanceOf i .r - 1 - total % instanceOf i .r)) % instanceOf i .r) 0)
+
+-- 14. The number of blocks asked for is not 1 to 1,024.
+unfoldable pub line14 : (k : ℕ) → Bool
+line14 k = ltb k 1 || ltb 1024 k
+
+-- 15. The state would have given out more than 1,048,576 extra blocks.
+unfoldable pub line15 : (extra k : ℕ) → Bool
+line15 extra k = ltb extraLimit (extra + k)
 
 -- ---- a call's answer with the state that it hands back
 
@@ -87,6 +99,27 @@ finishResult s w buffer = resultBy (finishNumber s w buffer) s (stateWith (s .in
 unfoldable pub finishBytes : State → (w : ℕ) → List ℕ → List ℕ
 finishBytes s w buffer =
     cond (eqb (finishNumber s w (length buffer)) 0) (bytesOf (stateBytes (s .instance)) (finishOutput (instanceOf (s .instance)) (contentOf s))) buffer
+
+-- ---- squeeze
+
+-- the length of its buffer: k blocks of r/8 bytes
+unfoldable pub blocksBytes : (i k : ℕ) → ℕ
+blocksBytes i k = k * (instanceOf i .r / 8)
+
+unfoldable pub squeezeNumber : State → (w k buffer : ℕ) → ℕ
+squeezeNumber s w k buffer =
+    firstLine
+    ((line1 (s .instance), 1) ∷ (line2 s, 2) ∷ (line3Squeeze s, 3) ∷ (line4 (s .instance) w, 4) ∷ (line5 buffer (blocksBytes (s .instance) k), 5)
+    ∷ (line14 k, 14) ∷ (line15 (s .extra) k, 15) ∷ [])
+
+unfoldable pub squeezeResult : State → (w k buffer : ℕ) → Result
+squeezeResult s w k buffer =
+    resultBy (squeezeNumber s w k buffer) s (stateWith (s .instance) closedPhase (extraSqueezed (instanceOf (s .instance)) k (contentOf s)))
+
+-- the buffer after squeeze: k blocks
+unfoldable pub squeezeBytes : State → (w k : ℕ) → List ℕ → List ℕ
+squeezeBytes s w k buffer =
+    cond (eqb (squeezeNumber s w k (length buffer)) 0) (bytesOf (blocksBytes (s .instance) k) (squeezeOutput (instanceOf (s .instance)) k (contentOf s))) buffer
 
 -- ---- digest
 

@@ -1,4 +1,5 @@
--- Taking bits one by one, and finishing (document 01, "Pieces and finish"), on what a state holds.
+-- Taking bits one by one and finishing (document 01, "Pieces and finish"), and more blocks after it (document 02, 2.1), on what a state
+-- holds.
 use mathlib.Core.Bool.{cond}
 use mathlib.Core.List.{List, [], _∷_}
 use Prim.Native.Nat.{ℕ, _+_, _-_, _/_, _%_}
@@ -8,14 +9,15 @@ use Rattle.quark.specs.Bytes.{bit}
 use Rattle.quark.specs.Instance.{Instance}
 use Rattle.quark.specs.Sponge.{Counted, runP, squeezed, output}
 
--- how many bits were taken, the state's bits, and how often P has run
+-- how many bits were taken, how many extra blocks were given out since the finish, the state's bits, and how often P has run
 pub record Content : Type 0 where
   pub total : ℕ
+  pub extra : ℕ
   pub sponge : Counted
 
 -- the same with other bits and runs
 abbrev pub holding : Content → Counted → Content
-holding h s = record { total = h .total; sponge = s }
+holding h s = record { total = h .total; extra = h .extra; sponge = s }
 
 module _ (I : Instance) where
   -- where the next bit goes
@@ -31,7 +33,7 @@ module _ (I : Instance) where
   takeBit h x =
       let total = h .total + 1 in
       let added = addBit (bitIndex (h .total)) x (h .sponge) in
-      record { total = total; sponge = cond (eqb (total % I .r) 0) (runP I added) added }
+      record { total = total; extra = h .extra; sponge = cond (eqb (total % I .r) 0) (runP I added) added }
 
   -- the bits of a piece, in order
   unfoldable pub takeBits : Content → List ℕ → Content
@@ -48,3 +50,10 @@ module _ (I : Instance) where
 
   unfoldable pub finished : Content → Content
   finished h = holding h (squeezed I (I .n / I .r - 1) (afterPadding h))
+
+  -- k extra blocks: for each P runs once, and then the last r bits are given out; what is given out, and what is held after it
+  unfoldable pub squeezeOutput : ℕ → Content → List ℕ
+  squeezeOutput k h = output I k (runP I (h .sponge))
+
+  unfoldable pub extraSqueezed : ℕ → Content → Content
+  extraSqueezed k h = record { total = h .total; extra = h .extra + k; sponge = squeezed I k (h .sponge) }

@@ -1,4 +1,4 @@
--- Demand 3 of document 01: the statement about two whole lists of calls, of which any may be refused, each from a fresh state of one and the
+-- Demand 3 of document 01, with document 02, 2.1: the statement about two whole lists of calls, of which any may be refused, each from a fresh state of one and the
 -- same instance. Its proof is in proofs/TwoLists.antt.
 use mathlib.Core.Bool.{true, cond}
 use mathlib.Core.List.{List}
@@ -8,7 +8,7 @@ use Prim.Native.Nat.{ℕ}
 use lib.ListN.{length}
 use Rattle.quark.specs.Bytes.{bitsOf}
 use Rattle.quark.specs.Instance.{instanceOf, isInstance}
-use Rattle.quark.specs.Sponge.{Counted, pad, blockCount, absorbing, closed}
+use Rattle.quark.specs.Sponge.{Counted, pad, blockCount, absorbing, squeezed, closed}
 use Rattle.quark.specs.CloseAlike.{OnlyDiffering, Meet}
 use Rattle.sponge.specs.declared.State.{State}
 use Rattle.sponge.specs.Soundness.{absorbingPhase, closedPhase, sound}
@@ -19,9 +19,9 @@ use Rattle.sponge.specs.Calls.{Call, stateNumber, run, Message, messageN
 unfoldable pub phaseOf : Message → ℕ
 phaseOf m = cond (m .closed) closedPhase absorbingPhase
 
--- the definition's sponge over the message: its bits, and how often it ran P
+-- the definition's sponge over the message, with a run of P for each extra block once it is closed: its bits, and how often it ran P
 unfoldable pub spongeOf : ℕ → Message → Counted
-spongeOf i m = cond (m .closed) (closed (instanceOf i) (m .bits)) (absorbing (instanceOf i) (m .bits))
+spongeOf i m = cond (m .closed) (squeezed (instanceOf i) (m .extras) (closed (instanceOf i) (m .bits))) (absorbing (instanceOf i) (m .bits))
 
 -- a state is the one that a message determines
 pub record Follows (i : ℕ) (m : Message) (s : State) : Type 0 where
@@ -30,14 +30,15 @@ pub record Follows (i : ℕ) (m : Message) (s : State) : Type 0 where
   pub phase-is : s .phase ≡ phaseOf m
   pub total-is : s .total ≡ length (m .bits)
   pub runs-are : s .runs ≡ spongeOf i m .runs
+  pub extra-is : s .extra ≡ m .extras
   pub bits-are : bitsOf (instanceOf i .b) (s .bits) ≡ spongeOf i m .bits
 
 -- the state after a list is the one that the list's message determines
 unfoldable pub RunFollows : Type 0
 RunFollows = (i : ℕ) → isInstance i ≡ true → (calls : List Call) → Follows i (messageOf i calls) (run i calls)
 
--- and the message determines what each further call answers: in a list lines 1, 2 and 8 never refuse, and 3 is said to a closed message
--- alone
+-- and the message determines what each further call answers: in a list lines 1, 2 and 8 never refuse; of pieces and finishes 3 is said
+-- to a closed message alone, and of squeezes to an open one
 unfoldable pub AnswersFollow : Type 0
 AnswersFollow =
     (i : ℕ) → isInstance i ≡ true → (calls : List Call) (call : Call) → stateNumber (run i calls) call ≡ messageNumber i (messageOf i calls) call
@@ -48,12 +49,13 @@ AnswersFollow =
 abbrev pub bitsIn : ℕ → List Call → List ℕ
 bitsIn i calls = messageOf i calls .bits
 
--- two lists of one instance that both end closed, with messages that pad to equally many blocks
+-- two lists of one instance that both end closed, with messages that pad to equally many blocks, and with equal extras
 pub record Comparable (i : ℕ) (calls calls′ : List Call) : Type 0 where
   pub is-instance : isInstance i ≡ true
   pub closes : messageOf i calls .closed ≡ true
   pub closes′ : messageOf i calls′ .closed ≡ true
   pub equal-counts : blockCount (instanceOf i) (bitsIn i calls) ≡ blockCount (instanceOf i) (bitsIn i calls′)
+  pub equal-extras : messageOf i calls .extras ≡ messageOf i calls′ .extras
 
 -- document 01's "close alike": all b bits of the two closed states are equal
 unfoldable pub ListsCloseAlike : ℕ → List Call → List Call → Type 0

@@ -18,7 +18,7 @@ fn initial(instance: u32) -> [u8; 32]
     *b"\x39\x72\x51\xCE\xE1\xDE\x8A\xA7\x3E\xA2\x62\x50\xC6\xD7\xBE\x12\x8C\xD3\xE7\x9D\xD7\x18\xC2\x4B\x8A\x19\xD0\x9C\x24\x92\xDA\x5D"
 }
 
-// No bit taken, no run made, and the initial bits.
+// No bit taken, no run made, no extra block given out, and the initial bits.
 pub fn fresh(instance: u32) -> State
     ensures { λ r. ⌜ r ≡ fresh instance ⌝ }
 {
@@ -28,6 +28,7 @@ pub fn fresh(instance: u32) -> State
         phase: 0,
         total: 0,
         runs: 0,
+        extra: 0,
         bits,
     }
 }
@@ -42,6 +43,7 @@ pub fn zeros() -> State
         phase: 0,
         total: 0,
         runs: 0,
+        extra: 0,
         bits,
     }
 }

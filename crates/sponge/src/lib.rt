@@ -1,9 +1,10 @@
-// Hashing by pieces of bits (document 01, "Pieces and finish"; QUARK 3.1): a fresh state, pieces, finish, and the whole digest.
+// Hashing by pieces of bits (document 01, "Pieces and finish"; QUARK 3.1): a fresh state, pieces, finish, more blocks (document 02, 2.1), and
+// the whole digest.
 // A state is passed by value and comes back beside the answer. All tests of a call precede all of its work.
 ghost use mathlib.Core.Path.{_≡_};
 ghost use lib.ListN.{length};
 ghost use Rattle.refusals.specs.Outcome.{outcomeOf};
-ghost use Rattle.sponge.specs.Outcomes.{resultOf, initResult, absorbResult, finishResult, finishBytes, digestOutcome, digestBytes};
+ghost use Rattle.sponge.specs.Outcomes.{resultOf, initResult, absorbResult, finishResult, finishBytes, squeezeResult, squeezeBytes, digestOutcome, digestBytes};
 use permutation::lines::UNKNOWN_INSTANCE;
 use permutation::lines::is_instance;
 use refusals::Answer;
@@ -27,6 +28,8 @@ pub struct State {
     pub total: u32,
     // how often P has run
     pub runs: u32,
+    // the extra blocks given out since the finish
+    pub extra: u32,
     // the state's bits in byte form: b/8 bytes, and zeros after them
     pub bits: [u8; 32],
 }
@@ -71,6 +74,19 @@ pub fn finish(state: State, width: u32, buffer: &mut [u8]) -> Reply
         return replies::refuse(number, state);
     }
     replies::accept(output::close(state, width, buffer))
+}
+
+// Document 02's k more blocks: P runs once for each, and then the last r bits of a closed state go into the buffer, k times r/8 bytes in all.
+// Refuses by lines 1, 2, 3, 4, 5, 14 and 15, in this order; the state is then the one that was given, and the buffer is untouched.
+pub fn squeeze(state: State, width: u32, k: usize, buffer: &mut [u8]) -> Reply
+    ensures reply { λ r. ⌜ resultOf r ≡ squeezeResult state width k (length (now (buffer .entry))) ⌝ }
+    ensures bytes { λ _. ⌜ now (buffer .exit) ≡ squeezeBytes state width k (now (buffer .entry)) ⌝ }
+{
+    let number = lines::squeeze_line(state, width, k, buffer.len());
+    if number != 0 {
+        return replies::refuse(number, state);
+    }
+    replies::accept(output::give_extra(state, width, k, buffer))
 }
 
 // Document 01's whole digest: writes the digest of the first `count` bits of the message into the buffer. It is `init`, one `absorb` and

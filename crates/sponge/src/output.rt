@@ -1,4 +1,4 @@
-// Giving out blocks, and closing a state (document 01, "Pieces and finish").
+// Giving out blocks, closing a state (document 01, "Pieces and finish"), and more blocks from a closed one (document 02, 2.1).
 ghost use mathlib.Core.Path.{_≡_};
 ghost use Prim.Native.Nat.{_+_, _*_, _/_, _≤_};
 ghost use lib.ListN.{length};
@@ -6,8 +6,8 @@ ghost use lib.Seq.{paste};
 ghost use Rattle.quark.specs.Bytes.{bytesOf};
 ghost use Rattle.quark.specs.Instance.{instanceOf, stateBytes};
 ghost use Rattle.quark.specs.Sponge.{runP, squeezed, output};
-ghost use Rattle.sponge.specs.Taking.{finishOutput, finished};
-ghost use Rattle.sponge.specs.Soundness.{limit, closedPhase, contentOf, stateWith};
+ghost use Rattle.sponge.specs.Taking.{finishOutput, finished, squeezeOutput, extraSqueezed};
+ghost use Rattle.sponge.specs.Soundness.{limit, extraLimit, closedPhase, contentOf, stateWith};
 ghost use Rattle.sponge.specs.leaf.Ready.{Ready, RunsOfTotal, withSponge, lastBytes};
 use crate::State;
 use crate::pieces;
@@ -66,4 +66,16 @@ pub fn close(state: State, width: u32, buffer: &mut [u8]) -> State
     let mut padded = pieces::add_bit(state, 1);
     padded.phase = CLOSED;
     give_blocks(padded, width, rate::outputs(state.instance), buffer)
+}
+
+// Gives out k extra blocks, and counts them.
+pub fn give_extra(state: State, width: u32, k: usize, buffer: &mut [u8]) -> State
+    requires { ⌜ Ready state width × (length (now buffer) ≡ k * (instanceOf (state .instance) .r / 8)) × (state .runs + k ≤ 4294967295) × (state .extra + k ≤ extraLimit) ⌝ }
+    ensures left { λ r. ⌜ r ≡ stateWith (state .instance) (state .phase) (extraSqueezed (instanceOf (state .instance)) k (contentOf state)) ⌝ }
+    ensures bytes { λ _. ⌜ now (buffer .exit)
+        ≡ bytesOf (k * (instanceOf (state .instance) .r / 8)) (squeezeOutput (instanceOf (state .instance)) k (contentOf state)) ⌝ }
+{
+    let mut last = give_blocks(state, width, k, buffer);
+    last.extra = last.extra + k as u32;
+    last
 }

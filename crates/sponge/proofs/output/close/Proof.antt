@@ -24,9 +24,9 @@ padded : State → Content
 padded s = holding (contentOf s) (added s 1)
 
 padded-state : (c : tie.After-add-bit) → let s = c .before .before .args .state in let t = c .add-bit .result in
-    changed closedPhase (t .total) t ≡ stateWith (s .instance) closedPhase (padded s)
+    changed closedPhase (t .total) (t .extra) t ≡ stateWith (s .instance) closedPhase (padded s)
 unfolding withSponge stateWith padded
-padded-state c = with-changed (λ t. closedPhase) (λ t. t .total) (c .before .before .args .state) (c .add-bit .result) _ (c .add-bit .ensures)
+padded-state c = with-changed (λ t. closedPhase) (λ t. t .total) (λ t. t .extra) (c .before .before .args .state) (c .add-bit .result) _ (c .add-bit .ensures)
 
 add-bit-requires : tie.Need-add-bit-requires
 add-bit-requires c κs = (c .before .pre .0 .zero-past, omega arith)

@@ -16,9 +16,9 @@ use Rattle.sponge.proofs.pieces.take_bit.Tie as tie
 
 -- the state once the bit is added and counted
 next-state : (c : tie.After-add-bit) → let s = c .before .args .state in let t = c .add-bit .result in
-    changed (t .phase) (t .total + 1) t ≡ stateWith (s .instance) (s .phase) (counted s (c .before .args .bit))
+    changed (t .phase) (t .total + 1) (t .extra) t ≡ stateWith (s .instance) (s .phase) (counted s (c .before .args .bit))
 unfolding withSponge stateWith contentOf
-next-state c = with-changed (λ t. t .phase) (λ t. t .total + 1) (c .before .args .state) (c .add-bit .result) _ (c .add-bit .ensures)
+next-state c = with-changed (λ t. t .phase) (λ t. t .total + 1) (λ t. t .extra) (c .before .args .state) (c .add-bit .result) _ (c .add-bit .ensures)
 
 add-bit-requires : tie.Need-add-bit-requires
 add-bit-requires c κs = (c .pre .0 .zero-past, c .pre .1)

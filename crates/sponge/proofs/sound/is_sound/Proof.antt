@@ -12,4 +12,4 @@ unfolding sound
 returns c = cc
 
 pub is-sound-spec : {M : Type 1} → statement M
-is-sound-spec = tie.close (tie.spec (λ c κs. tt) (λ c κs. tt) cast-runs (λ c κs. tt) (λ c κs. tt) returns)
+is-sound-spec = tie.close (tie.spec (λ c κs. tt) (λ c κs. tt) (λ c κs. tt) cast-runs (λ c κs. tt) (λ c κs. tt) (λ c κs. tt) returns)

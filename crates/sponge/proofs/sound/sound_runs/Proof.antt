@@ -1,4 +1,4 @@
--- `sound_runs` meets its contract: the quotient is at most the total, so the sum does not wrap.
+-- `sound_runs` meets its contract: the quotient is at most the total, so the sums do not wrap.
 use mathlib.Core.Path.{ap₂}
 use Prim.Native.Nat.{ℕ, _+_, _/_}
 use native.Mathlib.Nat.{div-le-self}
@@ -28,13 +28,18 @@ add-result c =
     let a = c .before .before .before .args in
     omega (arith, outputs-small (a .instance), div-le-self (a .total) (c .before .before .rate .result))
 
+add-result-2 : tie.Need-add-result-2
+add-result-2 c =
+    let a = c .before .before .before .args in
+    omega (arith, outputs-small (a .instance), div-le-self (a .total) (c .before .before .rate .result))
+
 returns-2 : tie.Need-returns-2
 unfolding soundRuns
 returns-2 c =
     let a = c .before .before .before .args in
     rw (ne-eqb _ _ (c .before .if1 .left))
-    (ap₂ (λ (r n : ℕ). a .total / r + n) (c .before .before .rate .ensures) (c .outputs .ensures))
+    (ap₂ (λ (r n : ℕ). a .total / r + n + a .extra) (c .before .before .rate .ensures) (c .outputs .ensures))
 
 pub sound-runs-spec : {M : Type 1} → statement M
 sound-runs-spec =
-    tie.close (tie.spec rate-requires div-blocks returns outputs-requires add-result returns-2)
+    tie.close (tie.spec rate-requires div-blocks returns outputs-requires add-result add-result-2 returns-2)
