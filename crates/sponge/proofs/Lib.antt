@@ -10,4 +10,5 @@ pub mod Messages
 pub mod TwoLists
 pub mod WholeDigest
 pub mod SoundCalls
+pub mod MoreBlocks
 pub mod Samples

@@ -3,7 +3,7 @@
 use mathlib.Core.Bool.{Bool, true, false, cond, not, _||_}
 use mathlib.Core.List.{List, []}
 use mathlib.Core.Path.{_≡_, refl, sym, ap, ap₂, _∙_, subst}
-use Prim.Native.Nat.{ℕ, _+_, _-_, _/_, _%_, _≤_}
+use Prim.Native.Nat.{ℕ, _+_, _-_, _%_, _≤_}
 use native.Mathlib.Decide.{ℕ-discrete}
 use native.Mathlib.Nat.{zero-div}
 use native.Mathlib.Omega.{arith}
@@ -51,7 +51,7 @@ unfolding phaseOf mostExtra
 admissible-empty = record { within = omega arith; extras-within = omega arith; of-bits = none }
 
 -- an open message has no extras
-no-extras : (m : Message) → Admissible m → m .closed ≡ false → m .extras ≡ 0
+pub no-extras : (m : Message) → Admissible m → m .closed ≡ false → m .extras ≡ 0
 unfolding phaseOf mostExtra
 no-extras m h open′ = let none : m .extras ≤ 0 = rw open′ at (h .extras-within) in omega arith
 
@@ -136,11 +136,11 @@ piece-open : (i : ℕ) (m : Message) (bytes : List ℕ) (count width : ℕ) → 
 unfolding messageNumber
 piece-open i m bytes count width accepted = let none = none-holds _ refl accepted in search none
 
-finish-open : (i : ℕ) (m : Message) (width buffer : ℕ) → messageNumber i m (finish width buffer) ≡ 0 → m .closed ≡ false
+pub finish-open : (i : ℕ) (m : Message) (width buffer : ℕ) → messageNumber i m (finish width buffer) ≡ 0 → m .closed ≡ false
 unfolding messageNumber
 finish-open i m width buffer accepted = let none = none-holds _ refl accepted in search none
 
-squeeze-closed : (i : ℕ) (m : Message) (width k buffer : ℕ) → messageNumber i m (squeeze width k buffer) ≡ 0 → m .closed ≡ true
+pub squeeze-closed : (i : ℕ) (m : Message) (width k buffer : ℕ) → messageNumber i m (squeeze width k buffer) ≡ 0 → m .closed ≡ true
 unfolding messageNumber
 squeeze-closed i m width k buffer accepted = let none = none-holds _ refl accepted in not-false (m .closed) (search none)
 

@@ -52,7 +52,7 @@ module _ (i : ℕ) (c : Counted) (wide : Wide (instanceOf i .b) (c .bits)) where
       length-drop (instanceOf i .b - instanceOf i .r) (squeezed (instanceOf i) k c .bits)
       ∙ omega (arith, wide-squeezed (instanceOf i) (regular i) k c wide .0, regular i .rate-fits, whole-rate i)
 
-  length-output : (k : ℕ) → length (output (instanceOf i) k c) ≡ 8 * (k * (instanceOf i .r / 8))
+  pub length-output : (k : ℕ) → length (output (instanceOf i) k c) ≡ 8 * (k * (instanceOf i .r / 8))
   unfolding output
   length-output zero = omega arith
   length-output (suc k) = length-append (output (instanceOf i) k c) (lastOf k) ∙ omega (arith, length-output k, length-last k)

@@ -32,7 +32,7 @@ module _ (i : ℕ) (is-instance : isInstance i ≡ true) where
       (ap (λ (s : State). runFrom s calls) (after-call i is-instance m h call) ∙ rest .0, rest .1)
 
   module _ (calls : List Call) where
-    run-state : (run i calls ≡ stateOf i (messageOf i calls)) × Admissible (messageOf i calls)
+    pub run-state : (run i calls ≡ stateOf i (messageOf i calls)) × Admissible (messageOf i calls)
     unfolding run messageOf
     run-state =
         let r = run-message empty calls admissible-empty in
@@ -53,7 +53,7 @@ module _ (i : ℕ) (is-instance : isInstance i ≡ true) where
           bits-are = bits-content i (spongeOf i m .bits) (wide-sponge i m);
         })
 
-    answers : (call : Call) → stateNumber (run i calls) call ≡ messageNumber i (messageOf i calls) call
+    pub answers : (call : Call) → stateNumber (run i calls) call ≡ messageNumber i (messageOf i calls) call
     answers call = ap (λ (s : State). stateNumber s call) (run-state .0) ∙ same-number i is-instance (messageOf i calls) (run-state .1) call
 
     -- a call that is refused changes nothing, neither the state nor the message
