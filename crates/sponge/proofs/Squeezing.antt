@@ -8,7 +8,7 @@ use native.Mathlib.Omega.{arith}
 use lib.ListN.{length, take, drop, length-append, length-drop, drop-of-length-le}
 use lib.Seq.{paste, take-at, drop-at, drop-drop, take-all}
 use Rattle.quark.specs.Bytes.{tabulate, bytesOf}
-use Rattle.quark.specs.Instance.{U, D, S, instanceOf, stateBytes}
+use Rattle.quark.specs.Instance.{Instance, U, D, S, instanceOf, stateBytes}
 use Rattle.quark.specs.Sponge.{Counted, runP, squeezed, output}
 use Rattle.quark.proofs.Bits.{Wide}
 use Rattle.quark.proofs.Bytes.{length-bytesOf, bytes-append}
@@ -16,7 +16,7 @@ use Rattle.quark.proofs.Instance.{of-each, regular}
 use Rattle.quark.proofs.Blocks.{wide-squeezed}
 use Rattle.quark.proofs.Runs.{runs-squeezed, squeezed-run}
 use Rattle.sponge.specs.declared.State.{State}
-use Rattle.sponge.specs.Taking.{Content, holding}
+use Rattle.sponge.specs.Taking.{Content, holding, squeezeOutput, extraSqueezed}
 use Rattle.sponge.specs.Soundness.{contentOf, stateWith}
 use Rattle.sponge.specs.leaf.Ready.{ZeroPast, Ready, withSponge, lastBytes}
 use Rattle.sponge.proofs.StateBytes.{Bytes, whole-rate, bytes-last}
@@ -39,6 +39,14 @@ part-fits k q count h = omega (arith, add-mul k 1 q, mul-le-mul-right {m = k + 1
 pub whole-output : (i : ℕ) → instanceOf i .n / instanceOf i .r * (instanceOf i .r / 8) ≡ stateBytes i
 unfolding U D S stateBytes
 whole-output = of-each (λ I. I .n / I .r * (I .r / 8) ≡ I .b / 8) refl refl refl
+
+-- ---- extra blocks
+
+-- each is the last r bits after its own run of P
+pub next-block : (I : Instance) (k : ℕ) (h : Content)
+    → squeezeOutput I (suc k) h ≡ squeezeOutput I k h ++ drop (I .b - I .r) (extraSqueezed I (suc k) h .sponge .bits)
+unfolding squeezeOutput extraSqueezed output
+next-block I k h = ap (λ (c : Counted). output I k (runP I (h .sponge)) ++ drop (I .b - I .r) (c .bits)) (squeezed-run I k (h .sponge))
 
 -- ---- one block more, from c
 

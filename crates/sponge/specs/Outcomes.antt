@@ -22,11 +22,12 @@ use Rattle.sponge.specs.Soundness.{limit, extraLimit, absorbingPhase, cl
 unfoldable pub line2 : State → Bool
 line2 s = not (sound s)
 
--- 3. The state is closed and takes nothing more, or it is absorbing and gives out no extra blocks yet. A piece and a finish are refused by a
--- closed state, and a squeeze by an absorbing one.
+-- 3. The state is closed and takes nothing more, or absorbing and gives out no blocks yet.
+-- For a piece and a finish: it is closed.
 unfoldable pub line3 : State → Bool
 line3 s = eqb (s .phase) closedPhase
 
+-- For a squeeze: it is absorbing.
 unfoldable pub line3Squeeze : State → Bool
 line3Squeeze s = eqb (s .phase) absorbingPhase
 

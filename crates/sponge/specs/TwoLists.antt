@@ -23,7 +23,7 @@ phaseOf m = cond (m .closed) closedPhase absorbingPhase
 unfoldable pub spongeOf : ℕ → Message → Counted
 spongeOf i m = cond (m .closed) (squeezed (instanceOf i) (m .extras) (closed (instanceOf i) (m .bits))) (absorbing (instanceOf i) (m .bits))
 
--- a state is the one that a message determines
+-- a state is the one that a message determines, with its extras
 pub record Follows (i : ℕ) (m : Message) (s : State) : Type 0 where
   pub is-sound : sound s ≡ true
   pub instance-is : s .instance ≡ i
@@ -33,7 +33,7 @@ pub record Follows (i : ℕ) (m : Message) (s : State) : Type 0 where
   pub extra-is : s .extra ≡ m .extras
   pub bits-are : bitsOf (instanceOf i .b) (s .bits) ≡ spongeOf i m .bits
 
--- the state after a list is the one that the list's message determines
+-- the state after a list is the one that the list's message determines, with its extras
 unfoldable pub RunFollows : Type 0
 RunFollows = (i : ℕ) → isInstance i ≡ true → (calls : List Call) → Follows i (messageOf i calls) (run i calls)
 

@@ -23,7 +23,7 @@ use refusals::lines::first;
 // 2. The state is not sound.
 const UNSOUND_STATE: u32 = 2;
 
-// 3. The state is closed and takes nothing more, or it is absorbing and gives out no extra blocks yet.
+// 3. The state is closed and takes nothing more, or absorbing and gives out no blocks yet.
 const WRONG_PHASE: u32 = 3;
 
 // 6. There are fewer bits than the count says.

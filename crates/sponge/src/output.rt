@@ -75,7 +75,8 @@ pub fn give_extra(state: State, width: u32, k: usize, buffer: &mut [u8]) -> Stat
     ensures bytes { λ _. ⌜ now (buffer .exit)
         ≡ bytesOf (k * (instanceOf (state .instance) .r / 8)) (squeezeOutput (instanceOf (state .instance)) k (contentOf state)) ⌝ }
 {
+    let blocks = k as u32;
     let mut last = give_blocks(state, width, k, buffer);
-    last.extra = last.extra + k as u32;
+    last.extra = last.extra + blocks;
     last
 }

@@ -156,11 +156,25 @@ fn the_headers_values_are_those_of_rust() {
     assert_eq!(found, expected);
 }
 
+/// The refusals that no exported function answers: there is no state among the arguments, line 8 never holds, nothing is found by an index,
+/// and no blocks are asked for.
+const UNANSWERED: [&str; 6] =
+    ["UNSOUND_STATE", "WRONG_PHASE", "PADDED_LENGTH", "NO_SUCH_RECORD", "BLOCKS_OUT_OF_RANGE", "EXTRA_OVER_LIMIT"];
+
 /// The refusals of the Rattle sources that an exported function can answer.
 fn answered() -> Vec<Refusal> {
-    // the others: there is no state among the arguments, line 8 never holds, and nothing is found by an index
-    let unanswered = ["UNSOUND_STATE", "CLOSED_STATE", "PADDED_LENGTH", "NO_SUCH_RECORD"];
-    sources::refusals().into_iter().filter(|refusal| !unanswered.contains(&refusal.name.as_str())).collect()
+    sources::refusals().into_iter().filter(|refusal| !UNANSWERED.contains(&refusal.name.as_str())).collect()
+}
+
+/// The header lists the others by their numbers.
+#[test]
+fn the_header_names_the_numbers_that_are_never_answered() {
+    let others = sources::refusals().into_iter().filter(|refusal| UNANSWERED.contains(&refusal.name.as_str()));
+    let numbers: Vec<String> = others.map(|refusal| refusal.number.to_string()).collect();
+    assert_eq!(numbers.len(), UNANSWERED.len());
+    let (last, first) = numbers.split_last().expect("a number");
+    let sentence = format!("Numbers {} and {last} are never answered here.", first.join(", "));
+    assert!(header().contains(&sentence), "the header has not '{sentence}'");
 }
 
 #[test]

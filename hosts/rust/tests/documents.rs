@@ -74,7 +74,7 @@ fn definitions_have_the_same_sentences() {
             }
         }
     }
-    assert!(compared >= 12, "{compared} sentences");
+    assert!(compared >= 14, "{compared} sentences");
 }
 
 const PERMUTE: &str = "permutation/specs/Permute";
@@ -122,6 +122,7 @@ fn orders() -> Vec<(&'static str, Vec<u32>)> {
         ("init", lines_of(OUTCOMES, "initNumber")),
         ("absorb", lines_of(OUTCOMES, "absorbNumber")),
         ("finish", lines_of(OUTCOMES, "finishNumber")),
+        ("squeeze", lines_of(OUTCOMES, "squeezeNumber")),
         ("digest", lines_of(OUTCOMES, "digestNumber")),
         ("seal", lines_of("records/specs/Sealing", "sealNumber")),
         ("check", lines_of("records/specs/Check", "checkNumber")),

@@ -11,11 +11,11 @@ use Rattle.sponge.proofs.Contents.{with-changed}
 use Rattle.sponge.proofs.output.give_extra.Statement.{statement}
 use Rattle.sponge.proofs.output.give_extra.Tie as tie
 
+cast-blocks : tie.Need-cast-blocks
+cast-blocks c = search needs
+
 give-blocks-requires : tie.Need-give-blocks-requires
 give-blocks-requires c κs = search needs
-
-cast-last : tie.Need-cast-last
-cast-last c = search needs
 
 add-last : tie.Need-add-last
 unfolding withSponge stateWith contentOf
@@ -32,4 +32,4 @@ returns c =
     (with-changed (λ t. t .phase) (λ t. t .total) (λ t. t .extra + a .k) (a .state) (blocks .result) _ (blocks .ensures .0), blocks .ensures .1)
 
 pub give-extra-spec : {M : Type 1} → statement M
-give-extra-spec = tie.close (tie.spec give-blocks-requires cast-last add-last same-length returns)
+give-extra-spec = tie.close (tie.spec cast-blocks give-blocks-requires add-last same-length returns)
