@@ -2,9 +2,9 @@
 //! bytes, so that blocks are added byte by byte. Message bits are ordered as document 01 has it: bit i is in byte i div 8 with weight
 //! 2 to the (7 - i mod 8).
 use crate::hexadecimal::bytes;
-use crate::permute;
+use crate::{permute, state_bytes};
 
-/// A digest, and how often P ran for it.
+/// A digest, or a longer output, and how often P ran for it.
 pub struct Digest {
     pub bytes: Vec<u8>,
     pub runs: u64,
@@ -46,6 +46,11 @@ pub fn padded(instance: u32, message: &[u8], bits: usize) -> Vec<u8> {
 
 /// The digest of a message's first `bits` bits.
 pub fn digest(instance: u32, message: &[u8], bits: usize) -> Digest {
+    output(instance, message, bits, state_bytes(instance))
+}
+
+/// The output for a message's first `bits` bits: as many blocks as fill `length` bytes.
+pub fn output(instance: u32, message: &[u8], bits: usize, length: usize) -> Digest {
     let mut state = initial(instance);
     let rate = rate_bytes(instance);
     let last = state.len() - rate;
@@ -58,7 +63,7 @@ pub fn digest(instance: u32, message: &[u8], bits: usize) -> Digest {
         runs += 1;
     }
     let mut bytes = state[last..].to_vec();
-    while bytes.len() < state.len() {
+    while bytes.len() < length {
         permute(instance, &mut state);
         runs += 1;
         bytes.extend_from_slice(&state[last..]);

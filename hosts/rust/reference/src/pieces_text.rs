@@ -1,7 +1,7 @@
-//! The text that crates/pieces must write, from this implementation of pieces and digests.
-use crate::digest::digest as whole_digest;
+//! The text that crates/pieces must write, from this implementation of pieces, extra blocks and digests.
+use crate::digest::{digest as whole_digest, rate_bytes};
 use crate::hexadecimal;
-use crate::pieces::{absorb, finish, init, State};
+use crate::pieces::{absorb, finish, init, squeeze, State};
 use crate::state_bytes;
 use std::fmt::Write;
 
@@ -20,6 +20,9 @@ pub fn text() -> String {
     for instance in 1..=3 {
         limit(&mut text, instance);
     }
+    for instance in 1..=3 {
+        limit_of_extra(&mut text, instance);
+    }
     forged_states(&mut text);
     text
 }
@@ -30,8 +33,9 @@ fn name(instance: u32) -> char {
 
 /// The fields of a state.
 fn fields(state: State) -> String {
-    let State { instance, phase, total, runs, bits } = state;
-    format!("instance {instance}, phase {phase}, total {total}, runs {runs}, bits {}", hexadecimal::text(&bits))
+    let State { instance, phase, total, runs, extra, bits } = state;
+    let bits = hexadecimal::text(&bits);
+    format!("instance {instance}, phase {phase}, total {total}, runs {runs}, extra {extra}, bits {bits}")
 }
 
 /// The bits of a message from bit `from` on; what stands after them is 0.
@@ -86,6 +90,30 @@ fn cuts(text: &mut String, instance: u32, message: &[u8], bits: usize) {
     writeln!(text, "digest {}", hexadecimal::text(&digest)).unwrap();
     writeln!(text, "cut in two: answers {answers}, {0} of {0} cuts agree", bits + 1).unwrap();
     writeln!(text, "bit by bit: agrees").unwrap();
+    blocks(text, state);
+}
+
+/// A squeeze with a buffer of `length` bytes: the state after it, and the bytes.
+fn squeezed(text: &mut String, state: State, width: u32, count: u64, length: usize) -> (State, Vec<u8>) {
+    let mut bytes = vec![0; length];
+    let (number, next) = squeeze(state, width, count, &mut bytes);
+    let call = format!("squeeze of {count} blocks into {length} bytes at width {width}");
+    writeln!(text, "{call}: {number}, {}", after(state, next)).unwrap();
+    (next, bytes)
+}
+
+/// One block of a closed state, and 1,024, which are the same in two calls. 1,025 are too many for one.
+fn blocks(text: &mut String, state: State) {
+    let size = rate_bytes(state.instance);
+    let (one, head) = squeezed(text, state, 1, 1, size);
+    let (all, bytes) = squeezed(text, state, 8, 1_024, 1_024 * size);
+    let whole = whole_digest(state.instance, &bytes, 8 * bytes.len());
+    writeln!(text, "whole digest: 0, {}", hexadecimal::text(&whole.bytes)).unwrap();
+    let mut tail = vec![0; 1_023 * size];
+    assert_eq!(squeeze(one, 1, 1_023, &mut tail), (0, all));
+    assert_eq!([head, tail].concat(), bytes);
+    writeln!(text, "1 block and then 1023: agrees").unwrap();
+    squeezed(text, state, 8, 1_025, 1_025 * size);
 }
 
 /// States whose bits are sound: as many bytes as the instance has, and zeros after them.
@@ -97,13 +125,22 @@ fn bits(instance: u32) -> [u8; 32] {
     }
 }
 
+/// The state after a call, or that it is the one before.
+fn after(before: State, after: State) -> String {
+    if before == after {
+        "kept".to_string()
+    } else {
+        fields(after)
+    }
+}
+
 /// 60 bits to the greatest total, and one more.
 fn limit(text: &mut String, instance: u32) {
     let total = 16_777_155;
-    let mut state = State { instance, phase: 0, total, runs: total / [8, 16, 32][instance as usize - 1], bits: bits(instance) };
+    let runs = total / [8, 16, 32][instance as usize - 1];
+    let mut state = State { instance, phase: 0, total, runs, extra: 0, bits: bits(instance) };
     writeln!(text, "{}-QUARK, 60 bits to the limit", name(instance)).unwrap();
     writeln!(text, "{}", fields(state)).unwrap();
-    let after = |before: State, after: State| if before == after { "kept".to_string() } else { fields(after) };
     for count in [61, 60, 1, 0] {
         let (number, next) = absorb(state, 8, b"the limit", count);
         writeln!(text, "piece of {count} bits: {number}, {}", after(state, next)).unwrap();
@@ -115,32 +152,61 @@ fn limit(text: &mut String, instance: u32) {
     writeln!(text, "digest {}", hexadecimal::text(&digest)).unwrap();
 }
 
-/// One row of the table: a piece of `count` bits of nine bytes, and a finish with a buffer of `length` bytes.
-fn row(text: &mut String, name: &str, state: State, width: u32, count: u64, length: usize) {
-    let kept = |kept: bool| if kept { "kept" } else { "changed" };
-    let (piece, after_piece) = absorb(state, width, b"any bytes", count);
+/// One block to the greatest number of extra blocks, at the greatest total, and one more. Lines 4, 5 and 14 come before line 15.
+fn limit_of_extra(text: &mut String, instance: u32) {
+    let (total, extra) = (16_777_215, 1_048_575);
+    let runs = [total / 8 + 17, total / 16 + 11, total / 32 + 8][instance as usize - 1] + extra;
+    let short = State { instance, phase: 1, total, runs, extra, bits: bits(instance) };
+    let size = rate_bytes(instance);
+    writeln!(text, "{}-QUARK, 1 block to the limit", name(instance)).unwrap();
+    writeln!(text, "{}", fields(short)).unwrap();
+    squeezed(text, short, 8, 2, 2 * size);
+    let (full, _) = squeezed(text, short, 8, 1, size);
+    squeezed(text, full, 8, 1, size);
+    squeezed(text, full, 2, 0, 1);
+    squeezed(text, full, 8, 0, 1);
+    squeezed(text, full, 8, 0, 0);
+    squeezed(text, full, 8, 1_024, 1_024 * size - 1);
+    squeezed(text, full, 8, 1_024, 1_024 * size + 1);
+    squeezed(text, full, 8, 1_025, 1_025 * size);
+    // these come to one block where they, or their bytes, are cut to 32 or 64 bits
+    for count in [(1 << 32) + 1, (1 << 62) + 1, (1 << 63) + 1] {
+        squeezed(text, full, 8, count, size);
+    }
+}
+
+/// The answer of a call that is lent `length` bytes, and whether state and bytes are as handed in.
+fn answer(state: State, length: usize, call: impl Fn(State, &mut [u8]) -> (u32, State)) -> String {
     let mut buffer = vec![0xA5; length];
-    let (closing, after_finish) = finish(state, width, &mut buffer);
-    let piece_kept = kept(after_piece == state);
-    let finish_kept = kept(after_finish == state && buffer.iter().all(|&byte| byte == 0xA5));
-    writeln!(text, "{name}: piece {piece} {piece_kept}, finish {closing} {finish_kept}").unwrap();
+    let (number, after) = call(state, &mut buffer);
+    let kept = after == state && buffer.iter().all(|&byte| byte == 0xA5);
+    format!("{number} {}", if kept { "kept" } else { "changed" })
+}
+
+/// One row of the table: a piece of `count` bits of nine bytes, a finish with a buffer of `length` bytes, and a squeeze of one block.
+fn row(text: &mut String, name: &str, state: State, width: u32, count: u64, length: usize) {
+    let size = rate_bytes(state.instance.clamp(1, 3));
+    let piece = answer(state, 0, |state, _| absorb(state, width, b"any bytes", count));
+    let closing = answer(state, length, |state, buffer| finish(state, width, buffer));
+    let block = answer(state, size, |state, buffer| squeeze(state, width, 1, buffer));
+    writeln!(text, "{name}: piece {piece}, finish {closing}, squeeze {block}").unwrap();
 }
 
 /// The table of forged states.
 fn forged_states(text: &mut String) {
-    let u = State { instance: 1, phase: 0, total: 20, runs: 2, bits: bits(1) };
-    let d = State { instance: 2, phase: 0, total: 100, runs: 6, bits: bits(2) };
-    let s = State { instance: 3, phase: 0, total: 100, runs: 3, bits: bits(3) };
+    let u = State { instance: 1, phase: 0, total: 20, runs: 2, extra: 0, bits: bits(1) };
+    let d = State { instance: 2, phase: 0, total: 100, runs: 6, extra: 0, bits: bits(2) };
+    let s = State { instance: 3, phase: 0, total: 100, runs: 3, extra: 0, bits: bits(3) };
     let u_closed = State { phase: 1, runs: 19, ..u };
 
     row(text, "U, absorbing", u, 8, 8, 17);
     row(text, "D, absorbing", d, 8, 8, 22);
-    row(text, "S, absorbing", s, 16, 8, 32);
+    row(text, "S, absorbing", s, 8, 8, 32);
     row(text, "U, closed", u_closed, 8, 8, 17);
     row(text, "D, closed", State { phase: 1, runs: 17, ..d }, 8, 8, 22);
     row(text, "S, closed", State { phase: 1, runs: 11, ..s }, 16, 8, 32);
 
-    let zeros = State { instance: 0, phase: 0, total: 0, runs: 0, bits: [0; 32] };
+    let zeros = State { instance: 0, phase: 0, total: 0, runs: 0, extra: 0, bits: [0; 32] };
     row(text, "all zeros", zeros, 8, 8, 17);
     row(text, "instance 0", State { instance: 0, ..u }, 8, 8, 17);
     row(text, "instance 4", State { instance: 4, ..u }, 8, 8, 17);
@@ -166,7 +232,7 @@ fn forged_states(text: &mut String) {
     for (name, instance, at) in [("U", 1, 16), ("U", 1, 17), ("U", 1, 31), ("D", 2, 21), ("D", 2, 22), ("S", 3, 31)] {
         let mut bits = [0; 32];
         bits[at] = 128;
-        let state = State { instance, phase: 0, total: 0, runs: 0, bits };
+        let state = State { instance, phase: 0, total: 0, runs: 0, extra: 0, bits };
         row(text, &format!("{name}, byte {at} not zero"), state, 8, 8, state_bytes(instance));
     }
 
@@ -184,4 +250,13 @@ fn forged_states(text: &mut String) {
     row(text, "U, past the limit, 73 bits", near, 8, 73, 17);
     row(text, "U, past the limit, width 2", near, 2, 8, 17);
     row(text, "U, no bits near the limit", near, 1, 0, 17);
+
+    row(text, "U, extra 1", State { extra: 1, ..u }, 8, 8, 17);
+    row(text, "U, extra 1 with its run", State { runs: 3, extra: 1, ..u }, 8, 8, 17);
+    row(text, "U, closed, extra 1", State { extra: 1, ..u_closed }, 8, 8, 17);
+    row(text, "U, closed, extra 1 with its run", State { runs: 20, extra: 1, ..u_closed }, 8, 8, 17);
+    row(text, "U, closed, extra 1048576 with its runs", State { runs: 1048595, extra: 1048576, ..u_closed }, 8, 8, 17);
+    row(text, "U, closed, extra 1048577 with its runs", State { runs: 1048596, extra: 1048577, ..u_closed }, 8, 8, 17);
+    row(text, "U, closed, extra 4294967295", State { extra: 4294967295, ..u_closed }, 8, 8, 17);
+    row(text, "U, closed, extra 4294967295, runs 18", State { runs: 18, extra: 4294967295, ..u_closed }, 8, 8, 17);
 }
