@@ -1,30 +1,29 @@
 // Calls on a state, one after the other, each with the state that the one before it handed back.
-ghost use Prim.Native.Nat.{_<_, _≤_};
-use refusals::Answer;
+use crate::compare::smaller;
 use refusals::number_of;
 use sponge::Reply;
 use sponge::State;
 
-// The answers of the calls so far, a digit each, the latest last; the state; and 32 bytes that every finish takes its buffer from.
+// The calls so far.
 pub struct Calls {
-    pub answers: u64,
+    // the number of the latest answer
+    pub number: u32,
+    // the last digit of each answer, for the latest twelve, the latest last
+    pub digits: u64,
+    // the state that the latest call handed back
     pub state: State,
-    pub space: [u8; 32],
+    // the bytes that every buffer is taken from, enough for 1,025 blocks of S
+    pub space: [u8; 4100],
 }
 
-// The digit of an answer. No call here is refused by a line above 9.
-fn digit_of(answer: Answer) -> u64
-    ensures { λ r. ⌜ r < 10 ⌝ }
-{
-    (number_of(answer) % 10) as u64
-}
-
-// The calls with one more. The last twelve answers are kept.
-fn with_reply(answers: u64, reply: Reply, space: [u8; 32]) -> Calls {
+// The calls with one more.
+fn with_reply(digits: u64, reply: Reply, space: [u8; 4100]) -> Calls {
     let answer = reply.answer;
     let state = reply.state;
+    let number = number_of(answer);
     Calls {
-        answers: answers % 100000000000 * 10 + digit_of(answer),
+        number,
+        digits: digits % 100000000000 * 10 + (number % 10) as u64,
         state,
         space,
     }
@@ -33,16 +32,17 @@ fn with_reply(answers: u64, reply: Reply, space: [u8; 32]) -> Calls {
 // No call yet, on a state.
 pub fn on(state: State) -> Calls {
     Calls {
-        answers: 0,
+        number: 0,
+        digits: 0,
         state,
-        space: [165; 32],
+        space: [165; 4100],
     }
 }
 
-// `init`, after calls with these answers.
-pub fn init(answers: u64, instance: u32) -> Calls {
-    let space: [u8; 32] = [165; 32];
-    with_reply(answers, sponge::init(instance), space)
+// `init`, after calls with these digits.
+pub fn init(digits: u64, instance: u32) -> Calls {
+    let space: [u8; 4100] = [165; 4100];
+    with_reply(digits, sponge::init(instance), space)
 }
 
 // A piece of the first `count` bits of the bytes.
@@ -50,27 +50,27 @@ pub fn absorb(calls: Calls, width: u32, bytes: &[u8; 9], count: usize) -> Calls 
     let state = calls.state;
     let space = calls.space;
     with_reply(
-        calls.answers,
+        calls.digits,
         sponge::absorb(state, width, bytes, count),
         space,
     )
-}
-
-// At most the 32 bytes that the space has.
-fn within_space(length: usize) -> usize
-    ensures { λ r. ⌜ r ≤ 32 ⌝ }
-{
-    if length < 32 {
-        return length;
-    }
-    32
 }
 
 // A finish with the first `length` bytes of the space as its buffer.
 pub fn finish(calls: Calls, width: u32, length: usize) -> Calls {
     let state = calls.state;
     let mut space = calls.space;
-    let end = within_space(length);
+    let end = smaller(length, 4100);
     let reply = sponge::finish(state, width, &mut space[0..end]);
-    with_reply(calls.answers, reply, space)
+    with_reply(calls.digits, reply, space)
+}
+
+// A squeeze of `count` blocks, with the bytes of the space from `from` up to `to` as its buffer.
+pub fn squeeze(calls: Calls, width: u32, count: usize, from: usize, to: usize) -> Calls {
+    let state = calls.state;
+    let mut space = calls.space;
+    let end = smaller(to, 4100);
+    let start = smaller(from, end);
+    let reply = sponge::squeeze(state, width, count, &mut space[start..end]);
+    with_reply(calls.digits, reply, space)
 }

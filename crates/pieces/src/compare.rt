@@ -1,11 +1,25 @@
-// Comparing bytes, states and calls.
+// Comparing numbers, bytes, states and calls.
+ghost use Prim.Native.Nat.{_≤_};
 use crate::calls::Calls;
 use sponge::State;
 
-// Whether two arrays have the same bytes.
-pub fn same(a: &[u8; 32], b: &[u8; 32]) -> bool {
+// The smaller of two numbers.
+pub fn smaller(a: usize, b: usize) -> usize
+    ensures { λ r. ⌜ (r ≤ a) × (r ≤ b) ⌝ }
+{
+    if a < b {
+        return a;
+    }
+    b
+}
+
+// Whether two slices have the same bytes.
+fn same(a: &[u8], b: &[u8]) -> bool {
+    if a.len() != b.len() {
+        return false;
+    }
     let mut i: usize = 0;
-    while i < 32 {
+    while i < a.len() {
         if a[i] != b[i] {
             return false;
         }
@@ -15,13 +29,14 @@ pub fn same(a: &[u8; 32], b: &[u8; 32]) -> bool {
 }
 
 // Whether two states have the same fields.
-pub fn same_state(a: State, b: State) -> bool {
+fn same_state(a: State, b: State) -> bool {
     let a_bits = a.bits;
     let b_bits = b.bits;
     a.instance == b.instance
         && a.phase == b.phase
         && a.total == b.total
         && a.runs == b.runs
+        && a.extra == b.extra
         && same(&a_bits, &b_bits)
 }
 

@@ -1,17 +1,18 @@
 // A message cut in two at every bit, and the same message bit by bit. However it is cut, its closed state and its digest are the same.
 ghost use Prim.Native.Nat.{_≤_};
+use crate::blocks::write_blocks;
 use crate::calls;
 use crate::calls::Calls;
 use crate::compare::same_outcome;
 use crate::message::part;
 use crate::text::write;
+use crate::text::write_agreement;
 use crate::text::write_digest;
-use crate::text::write_first;
 use crate::text::write_number;
 use crate::text::write_state;
+use crate::text::write_whole;
 use crate::widths::digest_bytes;
 use crate::widths::width_at;
-use refusals::number_of;
 
 // The message in two pieces, with a piece of no bits between them and refused calls among them: an instance that is none (1), a wrong
 // width (4), more bits than there are (6), a short buffer (5), and a piece and a finish once the message is closed (3, 3).
@@ -27,7 +28,7 @@ fn in_two(instance: u32, message: &[u8; 9], bits: usize, cut: usize) -> Calls
     let head = part(message, 0, cut);
     let tail = part(message, cut, left);
     let by_1 = calls::init(0, 0);
-    let fresh = calls::init(by_1.answers, instance);
+    let fresh = calls::init(by_1.digits, instance);
     let first = calls::absorb(fresh, width, &head, cut);
     let by_4 = calls::finish(first, 2, length);
     let by_6 = calls::absorb(by_4, width, &tail, 73);
@@ -59,7 +60,7 @@ fn cut_agrees(instance: u32, message: &[u8; 9], bits: usize, cut: usize, first: 
     requires { ⌜ bits ≤ 72 ⌝ }
 {
     let calls = in_two(instance, message, bits, cut);
-    calls.answers == first.answers && same_outcome(calls, first)
+    calls.digits == first.digits && same_outcome(calls, first)
 }
 
 fn one_if(holds: bool) -> usize
@@ -84,7 +85,8 @@ fn agreeing(instance: u32, message: &[u8; 9], bits: usize, first: Calls) -> usiz
     count
 }
 
-// The message cut at 0: its closed state and its digest, how many cuts agree with them, and whether the bits one by one do.
+// The message cut at 0: its closed state and its digest, how many cuts agree with them, whether the bits one by one do, and blocks of that
+// state.
 fn write_pieces(instance: u32, message: &[u8; 9], bits: usize)
     requires { ⌜ bits ≤ 72 ⌝ }
 {
@@ -94,29 +96,13 @@ fn write_pieces(instance: u32, message: &[u8; 9], bits: usize)
     let state = first.state;
     write_state(state);
     write_digest(first);
-    write(b"cut in two: answers ");
-    write_number(first.answers);
-    write(b", ");
-    write_number(agreeing(instance, message, bits, first) as u64);
-    write(b" of ");
-    write_number(cuts as u64);
+    write_number(b"cut in two: answers ", first.digits);
+    write_number(b", ", agreeing(instance, message, bits, first) as u64);
+    write_number(b" of ", cuts as u64);
     write(b" cuts agree\n");
-    if same_outcome(ones, first) {
-        write(b"bit by bit: agrees\n");
-    } else {
-        write(b"bit by bit: differs\n");
-    }
-}
-
-// The whole message's digest: its answer and its bytes.
-fn write_whole(instance: u32, message: &[u8; 9], bits: usize) {
-    let mut space: [u8; 32] = [0; 32];
-    let length = digest_bytes(instance);
-    let answer = sponge::digest(instance, 8, message, bits, &mut space[0..length]);
-    write(b"whole digest: ");
-    write_number(number_of(answer) as u64);
-    write(b", ");
-    write_first(&space, length);
+    write(b"bit by bit: ");
+    write_agreement(ones, first);
+    write_blocks(first);
 }
 
 // The first bits of a message, as many as `bits`, whole and in pieces.

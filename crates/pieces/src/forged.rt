@@ -1,19 +1,21 @@
-// Forged states: a piece and a finish on each, with the number that each gets.
+// Forged states: a piece, a finish and a squeeze on each, with the number that each gets.
 ghost use Prim.Native.Nat.{_<_};
 use crate::calls;
 use crate::calls::Calls;
 use crate::compare::same_outcome;
 use crate::states::bytes_of;
 use crate::states::forged;
+use crate::states::with_extra;
 use crate::text::write;
 use crate::text::write_number;
+use crate::widths::block_bytes;
 use crate::widths::digest_bytes;
 use crate::widths::widest;
 use sponge::State;
 
-// Writes the answer of a call, and whether state and buffer are as handed in.
-fn write_answer(before: Calls, after: Calls) {
-    write_number(after.answers % 10);
+// Writes a text and the answer of a call, and whether state and buffer are as handed in.
+fn write_answer(text: &[u8], before: Calls, after: Calls) {
+    write_number(text, after.number as u64);
     if same_outcome(before, after) {
         write(b" kept");
     } else {
@@ -21,14 +23,22 @@ fn write_answer(before: Calls, after: Calls) {
     }
 }
 
-// One row of the table: a piece of some bits of nine bytes, and a finish with a buffer of some bytes.
+// One row of the table: a piece of some bits of nine bytes, a finish with a buffer of some bytes, and a squeeze of one block.
 fn write_row(name: &[u8], state: State, width: u32, count: usize, length: usize) {
     let handed = calls::on(state);
+    let size = block_bytes(state.instance);
     write(name);
-    write(b": piece ");
-    write_answer(handed, calls::absorb(handed, width, b"any bytes", count));
-    write(b", finish ");
-    write_answer(handed, calls::finish(handed, width, length));
+    write_answer(
+        b": piece ",
+        handed,
+        calls::absorb(handed, width, b"any bytes", count),
+    );
+    write_answer(b", finish ", handed, calls::finish(handed, width, length));
+    write_answer(
+        b", squeeze ",
+        handed,
+        calls::squeeze(handed, width, 1, 0, size),
+    );
     write(b"\n");
 }
 
@@ -166,4 +176,37 @@ pub fn write_totals() {
     write_near(b"U, past the limit, 73 bits", 8, 73);
     write_near(b"U, past the limit, width 2", 2, 8);
     write_near(b"U, no bits near the limit", 1, 0);
+}
+
+// A state of U with extra blocks.
+fn write_extra(name: &[u8], phase: u32, runs: u32, extra: u32) {
+    write_row(
+        name,
+        with_extra(forged(1, phase, 20, runs, bytes_of(1)), extra),
+        8,
+        8,
+        17,
+    );
+}
+
+// Line 2: extra blocks of an absorbing state, without their runs, and past the limit. Line 15 at the limit.
+pub fn write_extras() {
+    write_extra(b"U, extra 1", 0, 2, 1);
+    write_extra(b"U, extra 1 with its run", 0, 3, 1);
+    write_extra(b"U, closed, extra 1", 1, 19, 1);
+    write_extra(b"U, closed, extra 1 with its run", 1, 20, 1);
+    write_extra(
+        b"U, closed, extra 1048576 with its runs",
+        1,
+        1048595,
+        1048576,
+    );
+    write_extra(
+        b"U, closed, extra 1048577 with its runs",
+        1,
+        1048596,
+        1048577,
+    );
+    write_extra(b"U, closed, extra 4294967295", 1, 19, 4294967295);
+    write_extra(b"U, closed, extra 4294967295, runs 18", 1, 18, 4294967295);
 }

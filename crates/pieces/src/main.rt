@@ -1,5 +1,6 @@
-// Messages cut into pieces, the greatest total, and forged states (document 01, "Pieces and finish"). What must be written, in `stdout`, is
-// from the implementation in hosts/rust/reference, which shares no code with this project's.
+// Messages cut into pieces, blocks of their closed states, the limits, and forged states (document 01, "Pieces and finish"; document 02,
+// 2.1). What must be written, in `stdout`, is from the implementation in hosts/rust/reference, which shares no code with this project's.
+mod blocks;
 mod calls;
 mod compare;
 mod cuts;
@@ -17,10 +18,8 @@ fn write_init(instance: u32) {
     let reply = sponge::init(instance);
     let answer = reply.answer;
     let state = reply.state;
-    text::write(b"init ");
-    text::write_number(instance as u64);
-    text::write(b": ");
-    text::write_number(number_of(answer) as u64);
+    text::write_number(b"init ", instance as u64);
+    text::write_number(b": ", number_of(answer) as u64);
     text::write(b", ");
     text::write_state(state);
 }
@@ -49,6 +48,9 @@ fn write_limits() {
     limit::write_limit(b"U-QUARK, 60 bits to the limit\n", 1, 2097144);
     limit::write_limit(b"D-QUARK, 60 bits to the limit\n", 2, 1048572);
     limit::write_limit(b"S-QUARK, 60 bits to the limit\n", 3, 524286);
+    limit::write_extra_limit(b"U-QUARK, 1 block to the limit\n", 1, 3145743);
+    limit::write_extra_limit(b"D-QUARK, 1 block to the limit\n", 2, 2097161);
+    limit::write_extra_limit(b"S-QUARK, 1 block to the limit\n", 3, 1572870);
 }
 
 fn write_forged_states() {
@@ -59,6 +61,7 @@ fn write_forged_states() {
     forged::write_bytes_after();
     forged::write_arguments();
     forged::write_totals();
+    forged::write_extras();
 }
 
 fn main() {

@@ -12,7 +12,7 @@ pub fn bytes_of(instance: u32) -> [u8; 32] {
     *b"A state of thirty-two bytes of S"
 }
 
-// A state with these fields.
+// A state with these fields, and no extra blocks.
 pub fn forged(instance: u32, phase: u32, total: u32, runs: u32, bits: [u8; 32]) -> State {
     State {
         instance,
@@ -22,4 +22,11 @@ pub fn forged(instance: u32, phase: u32, total: u32, runs: u32, bits: [u8; 32]) 
         extra: 0,
         bits,
     }
+}
+
+// A state with other extra blocks.
+pub fn with_extra(state: State, extra: u32) -> State {
+    let mut next = state;
+    next.extra = extra;
+    next
 }

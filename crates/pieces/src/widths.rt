@@ -21,6 +21,19 @@ pub fn width_at(instance: u32, i: usize) -> u32 {
     widest(instance)
 }
 
+// The bytes of a block: r/8.
+pub fn block_bytes(instance: u32) -> usize
+    ensures { λ r. ⌜ (1 ≤ r) × (r ≤ 4) ⌝ }
+{
+    if instance == 1 {
+        return 1;
+    }
+    if instance == 2 {
+        return 2;
+    }
+    4
+}
+
 // The bytes of a digest.
 pub fn digest_bytes(instance: u32) -> usize
     ensures { λ r. ⌜ r ≤ 32 ⌝ }

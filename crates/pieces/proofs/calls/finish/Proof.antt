@@ -1,4 +1,4 @@
--- `finish` is safe and ends. The space has 32 bytes, so that the part for the buffer ends within it.
+-- `finish` is safe and ends. The space has 4,100 bytes, so that the part for the buffer ends within it.
 use mathlib.Core.Path.{_≡_}
 use native.Mathlib.Omega.{arith}
 use lib.ListN.{length}
@@ -6,8 +6,8 @@ use borrow.Author.Needs.{needs}
 use Rattle.pieces.proofs.calls.finish.Statement.{statement}
 use Rattle.pieces.proofs.calls.finish.Tie as tie
 
-within-space-requires : tie.Need-within-space-requires
-within-space-requires c κs = tt
+smaller-requires : tie.Need-smaller-requires
+smaller-requires c κs = search needs
 
 sub-finish : tie.Need-sub-finish
 sub-finish c = search needs
@@ -17,15 +17,14 @@ part-space-start c = search needs
 
 part-space-end : tie.Need-part-space-end
 part-space-end c =
-    let s = c .before .before .before .args .calls in
-    let n : length (s .space) ≡ 32 = search needs in
+    let n : length (c .before .before .before .args .calls .space) ≡ 4100 = search needs in
     omega arith
 
 finish-requires : tie.Need-finish-requires
-finish-requires c κs = tt
+finish-requires c κs = search needs
 
 with-reply-requires : tie.Need-with-reply-requires
-with-reply-requires c κs = tt
+with-reply-requires c κs = search needs
 
 returns : tie.Need-returns
 returns c = search needs
@@ -34,7 +33,7 @@ pub finish-spec : {M : Type 1} → statement M
 finish-spec =
     tie.close
     (tie.spec
-    within-space-requires
+    smaller-requires
     sub-finish
     part-space-start
     part-space-end

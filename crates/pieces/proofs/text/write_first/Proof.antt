@@ -5,16 +5,19 @@ use Rattle.pieces.proofs.text.write_first.Statement.{statement}
 use Rattle.pieces.proofs.text.write_first.Tie as tie
 
 abbrev Inv-loop : tie.InvT-loop
-Inv-loop space length i₀ t4 i = Unit {0}
+Inv-loop bytes length end i₀ t6 i = Unit {0}
 
 abbrev μ-loop : tie.MeasureT-loop
-μ-loop space length i₀ t4 i = length - i
+μ-loop bytes length end i₀ t6 i = end - i
+
+smaller-requires : tie.Need-smaller-requires Inv-loop μ-loop
+smaller-requires c κs = search needs
 
 loop-holds : tie.Need-loop-holds Inv-loop μ-loop
 loop-holds c = search needs
 
-element-copy-out-write-byte : tie.Need-element-copy-out-write-byte Inv-loop μ-loop
-element-copy-out-write-byte c = search needs
+shared-slice-read-write-byte : tie.Need-shared-slice-read-write-byte Inv-loop μ-loop
+shared-slice-read-write-byte c = search needs
 
 write-byte-requires : tie.Need-write-byte-requires Inv-loop μ-loop
 write-byte-requires c κs = search needs
@@ -43,8 +46,9 @@ write-first-spec =
     (tie.spec
     Inv-loop
     μ-loop
+    smaller-requires
     loop-holds
-    element-copy-out-write-byte
+    shared-slice-read-write-byte
     write-byte-requires
     add-i
     loop-less
