@@ -6,6 +6,7 @@ ghost use lib.Dec.{ltb};
 ghost use Rattle.refusals.specs.Lines.{line5};
 ghost use Rattle.sponge.specs.Outcomes.{line6, line8, line14, blocksBytes, absorbNumber, finishNumber, squeezeNumber, digestNumber};
 use crate::State;
+use crate::output::MOST_BLOCKS;
 use crate::rate;
 use crate::sound::EXTRA_LIMIT;
 use crate::sound::LIMIT;
@@ -40,9 +41,6 @@ const BLOCKS_OUT_OF_RANGE: u32 = 14;
 
 // 15. The state would have given out more than 1,048,576 extra blocks.
 const EXTRA_OVER_LIMIT: u32 = 15;
-
-// The greatest number of blocks that one call asks for.
-const MOST_BLOCKS: usize = 1024;
 
 // Line 6. 8 times the bytes is worked out only where it does not pass the count, so it cannot wrap.
 fn count_over(bytes: usize, count: usize) -> bool
