@@ -11,11 +11,13 @@ use crate::text::write_digest;
 use crate::text::write_number;
 use crate::text::write_state;
 use crate::text::write_whole;
+use crate::widths::block_bytes;
 use crate::widths::digest_bytes;
 use crate::widths::width_at;
 
 // The message in two pieces, with a piece of no bits between them and refused calls among them: an instance that is none (1), a wrong
-// width (4), more bits than there are (6), a short buffer (5), and a piece and a finish once the message is closed (3, 3).
+// width (4), more bits than there are (6), a short buffer (5), a squeeze before the message is closed (3), and a piece and a finish after
+// that (3, 3).
 fn in_two(instance: u32, message: &[u8; 9], bits: usize, cut: usize) -> Calls
     requires { ⌜ cut ≤ bits ⌝ }
     requires { ⌜ bits ≤ 72 ⌝ }
@@ -34,7 +36,8 @@ fn in_two(instance: u32, message: &[u8; 9], bits: usize, cut: usize) -> Calls
     let by_6 = calls::absorb(by_4, width, &tail, 73);
     let no_bits = calls::absorb(by_6, next_width, &tail, 0);
     let by_5 = calls::finish(no_bits, width, 3);
-    let second = calls::absorb(by_5, last_width, &tail, left);
+    let early = calls::squeeze(by_5, width, 1, 0, block_bytes(instance));
+    let second = calls::absorb(early, last_width, &tail, left);
     let closed = calls::finish(second, width, length);
     let by_3 = calls::absorb(closed, width, &head, cut);
     calls::finish(by_3, width, length)

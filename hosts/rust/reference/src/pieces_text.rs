@@ -59,11 +59,12 @@ fn in_two(instance: u32, message: &[u8], bits: usize, cut: usize) -> (String, St
     let (by_6, state) = absorb(state, 1, &tail, 73);
     let (no_bits, state) = absorb(state, 1, &tail, 0);
     let (by_5, state) = finish(state, 8, &mut [0; 3]);
+    let (early, state) = squeeze(state, 8, 1, &mut vec![0; rate_bytes(instance)]);
     let (second, state) = absorb(state, 1, &tail, (bits - cut) as u64);
     let (closed, state) = finish(state, 1, &mut digest);
     let (by_3, state) = absorb(state, 8, &head, cut as u64);
     let (late, state) = finish(state, 8, &mut digest);
-    let answers = [by_1, fresh, first, by_4, by_6, no_bits, by_5, second, closed, by_3, late];
+    let answers = [by_1, fresh, first, by_4, by_6, no_bits, by_5, early, second, closed, by_3, late];
     (answers.map(|answer| answer.to_string()).concat(), state, digest)
 }
 
@@ -201,7 +202,7 @@ fn forged_states(text: &mut String) {
 
     row(text, "U, absorbing", u, 8, 8, 17);
     row(text, "D, absorbing", d, 8, 8, 22);
-    row(text, "S, absorbing", s, 8, 8, 32);
+    row(text, "S, absorbing", s, 16, 8, 32);
     row(text, "U, closed", u_closed, 8, 8, 17);
     row(text, "D, closed", State { phase: 1, runs: 17, ..d }, 8, 8, 22);
     row(text, "S, closed", State { phase: 1, runs: 11, ..s }, 16, 8, 32);
