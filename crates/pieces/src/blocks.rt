@@ -1,7 +1,7 @@
 // Blocks of a closed state (document 02, 2.1): one, and the most that a call gives, at once and in two calls.
 use crate::calls;
 use crate::calls::Calls;
-use crate::limit::squeeze;
+use crate::limit::write_squeeze;
 use crate::text::write;
 use crate::text::write_agreement;
 use crate::text::write_whole;
@@ -15,12 +15,12 @@ pub fn write_blocks(closed: Calls) {
     let instance = state.instance;
     let size = block_bytes(instance);
     let end = 1024 * size;
-    let most = 1025 * size;
-    let one = squeeze(closed, 1, 1, size);
-    let all = squeeze(closed, 8, 1024, end);
+    let over = 1025 * size;
+    let one = write_squeeze(closed, 1, 1, size);
+    let all = write_squeeze(closed, 8, 1024, end);
     let space = all.space;
-    write_whole(instance, &space, 8 * end);
+    write_whole(b"digest of these blocks: ", instance, &space, 8 * end);
     write(b"1 block and then 1023: ");
     write_agreement(calls::squeeze(one, widest(instance), 1023, size, end), all);
-    squeeze(closed, 8, 1025, most);
+    write_squeeze(closed, 8, 1025, over);
 }

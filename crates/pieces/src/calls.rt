@@ -8,7 +8,7 @@ use sponge::State;
 pub struct Calls {
     // the number of the latest answer
     pub number: u32,
-    // the last digit of each answer, for the latest twelve, the latest last
+    // the last digit of each answer, for the latest twelve, as many as `cuts` makes; the latest last
     pub digits: u64,
     // the state that the latest call handed back
     pub state: State,

@@ -16,8 +16,8 @@ use crate::widths::digest_bytes;
 use crate::widths::width_at;
 
 // The message in two pieces, with a piece of no bits between them and refused calls among them: an instance that is none (1), a wrong
-// width (4), more bits than there are (6), a short buffer (5), a squeeze before the message is closed (3), and a piece and a finish after
-// that (3, 3).
+// width (4), more bits than there are (6), a short buffer (5), a squeeze before the message is closed (3), and a piece and a finish once
+// it is (3, 3).
 fn in_two(instance: u32, message: &[u8; 9], bits: usize, cut: usize) -> Calls
     requires { ⌜ cut ≤ bits ⌝ }
     requires { ⌜ bits ≤ 72 ⌝ }
@@ -113,6 +113,6 @@ pub fn write_cuts(heading: &[u8], instance: u32, message: &[u8; 9], bits: usize)
     requires { ⌜ bits ≤ 72 ⌝ }
 {
     write(heading);
-    write_whole(instance, message, bits);
+    write_whole(b"whole digest: ", instance, message, bits);
     write_pieces(instance, message, bits);
 }

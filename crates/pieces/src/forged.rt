@@ -189,7 +189,8 @@ fn write_extra(name: &[u8], phase: u32, runs: u32, extra: u32) {
     );
 }
 
-// Line 2: extra blocks of an absorbing state, without their runs, and past the limit. Line 15 at the limit.
+// Line 2: extra blocks of an absorbing state, without their runs, and past the limit; the last state's runs are those of its blocks when
+// the sum is cut to 32 bits. Line 15 at the limit.
 pub fn write_extras() {
     write_extra(b"U, extra 1", 0, 2, 1);
     write_extra(b"U, extra 1 with its run", 0, 3, 1);

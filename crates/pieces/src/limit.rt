@@ -42,7 +42,7 @@ fn finish(calls: Calls, length: usize) {
 }
 
 // A squeeze into the first `length` bytes of the space, and what is written of it.
-pub fn squeeze(calls: Calls, width: u32, count: usize, length: usize) -> Calls {
+pub fn write_squeeze(calls: Calls, width: u32, count: usize, length: usize) -> Calls {
     let after = calls::squeeze(calls, width, count, 0, length);
     write_number(b"squeeze of ", count as u64);
     write_number(b" blocks into ", length as u64);
@@ -73,16 +73,16 @@ fn write_refused(calls: Calls, size: usize)
 {
     let less = 1024 * size - 1;
     let more = 1024 * size + 1;
-    let most = 1025 * size;
-    squeeze(calls, 2, 0, 1);
-    squeeze(calls, 8, 0, 1);
-    squeeze(calls, 8, 0, 0);
-    squeeze(calls, 8, 1024, less);
-    squeeze(calls, 8, 1024, more);
-    squeeze(calls, 8, 1025, most);
-    squeeze(calls, 8, 4294967297, size);
-    squeeze(calls, 8, 4611686018427387905, size);
-    squeeze(calls, 8, 9223372036854775809, size);
+    let over = 1025 * size;
+    write_squeeze(calls, 2, 0, 1);
+    write_squeeze(calls, 8, 0, 1);
+    write_squeeze(calls, 8, 0, 0);
+    write_squeeze(calls, 8, 1024, less);
+    write_squeeze(calls, 8, 1024, more);
+    write_squeeze(calls, 8, 1025, over);
+    write_squeeze(calls, 8, 4294967297, size);
+    write_squeeze(calls, 8, 4611686018427387905, size);
+    write_squeeze(calls, 8, 9223372036854775809, size);
 }
 
 // The closed state of an instance with its runs, the greatest total and one block to the limit: two blocks are one too many, one is taken,
@@ -97,8 +97,8 @@ pub fn write_extra_limit(heading: &[u8], instance: u32, runs: u32) {
     let short = calls::on(state);
     write(heading);
     write_state(state);
-    squeeze(short, 8, 2, two);
-    let full = squeeze(short, 8, 1, size);
-    squeeze(full, 8, 1, size);
+    write_squeeze(short, 8, 2, two);
+    let full = write_squeeze(short, 8, 1, size);
+    write_squeeze(full, 8, 1, size);
     write_refused(full, size);
 }

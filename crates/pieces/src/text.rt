@@ -46,7 +46,8 @@ fn write_first(bytes: &[u8], length: usize) {
     write(b"\n");
 }
 
-// The first `length` bytes of a state's bits, or of a digest, and a newline.
+// The first `length` bytes of a state's bits, or of a digest, and a newline. They come by value: the prover finds the length of an array that
+// is lent here, and not of one that is lent after other calls.
 fn write_bits(bits: [u8; 32], length: usize) {
     write_first(&bits, length);
 }
@@ -71,12 +72,12 @@ pub fn write_digest(calls: Calls) {
     write_first(&space, digest_bytes(state.instance));
 }
 
-// The digest of the first bits of a message, as many as `bits`: its answer and its bytes.
-pub fn write_whole(instance: u32, message: &[u8], bits: usize) {
+// A text, and the digest of the first bits of a message, as many as `bits`: its answer and its bytes.
+pub fn write_whole(text: &[u8], instance: u32, message: &[u8], bits: usize) {
     let mut space: [u8; 32] = [0; 32];
     let length = digest_bytes(instance);
     let answer = sponge::digest(instance, 8, message, bits, &mut space[0..length]);
-    write_number(b"whole digest: ", number_of(answer) as u64);
+    write_number(text, number_of(answer) as u64);
     write(b", ");
     write_bits(space, length);
 }

@@ -53,7 +53,7 @@ module _ (I : Instance) where
       runs-squeezed (I .n / I .r - 1) (before I (pad I m) (blockCount I m))
       ∙ omega (arith, runs-before (pad I m) (blockCount I m), block-count I (R .some-rate) m, R .some-output)
 
-  -- a closed state with e more runs: n/r + e runs in all, the first for the block after the last that was absorbed
+  -- one run more on a closed state with e more: n/r + e runs since the last block was absorbed
   pub run-closed : Regular I → (e : ℕ) (m : List ℕ) → runP I (squeezed I e (closed I m)) ≡ squeezed I (I .n / I .r + e) (absorbed I m)
   unfolding closed squeezed
   run-closed R e m =

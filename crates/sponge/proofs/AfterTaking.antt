@@ -1,4 +1,4 @@
--- What is held after bits are taken, and after a finish: b bits, the total, and the runs of P. For any regular instance.
+-- What is held after bits are taken, and after a finish: b bits, the total, the extra blocks, and the runs of P. For any regular instance.
 use mathlib.Core.Bool.{Bool, true, false, cond}
 use mathlib.Core.List.{List, [], _∷_, _++_}
 use mathlib.Core.Path.{_≡_, refl, sym, ap, _∙_}

@@ -1,5 +1,5 @@
--- The state that a message and its extras determine: it holds the definition's sponge over them, and it is sound. A fresh state is that of the empty
--- message; a call answers on the state what it answers on the message, and leaves the state that the message after it determines.
+-- The state that a message and its extras determine: it holds the definition's sponge over them, and it is sound. A fresh state is that of the
+-- empty message; a call answers on the state what it answers on the message, and leaves the state that the message after it determines.
 use mathlib.Core.Bool.{Bool, true, false, cond, not, _||_}
 use mathlib.Core.List.{List, []}
 use mathlib.Core.Path.{_≡_, refl, sym, ap, ap₂, _∙_, subst}

@@ -22,10 +22,10 @@ use Rattle.quark.proofs.Runs.{squeezed-run, squeezed-squeezed, output-append, o
 use Rattle.permutation.specs.Lines.{line1, line4}
 use Rattle.sponge.specs.declared.State.{State}
 use Rattle.sponge.specs.Taking.{Content, squeezeOutput, extraSqueezed}
-use Rattle.sponge.specs.Soundness.{extraLimit, closedPhase, contentOf, stateWith}
+use Rattle.sponge.specs.Soundness.{extraLimit, mostBlocks, closedPhase, contentOf, stateWith}
 use Rattle.sponge.specs.Outcomes.{line2, line3Squeeze, line14, line15, finishNumber, finishBytes, blocksBytes, squeezeNumber, squeezeResult, squeezeBytes, resultBy}
 use Rattle.sponge.specs.Calls.{Call, finish, squeeze, stateNumber, run, Message, grown, extended, messageOf}
-use Rattle.sponge.specs.MoreBlocks.{SqueezeSound, TwoCalls, OneCall, AtOnce, givenOut, DigestFirst, BlocksNext, MoreBlocks}
+use Rattle.sponge.specs.MoreBlocks.{TwoCalls, OneCall, AtOnce, givenOut, DigestFirst, BlocksNext, MoreBlocks}
 use Rattle.sponge.proofs.Contents.{wide-content, of-content}
 use Rattle.sponge.proofs.Passed.{squeeze-passed}
 use Rattle.sponge.proofs.Messages.{stateOf, no-extras, content-message, sponge-closed, accepted-grows, finish-open, squeeze-closed}
@@ -125,7 +125,7 @@ module _ (s : State) (w w′ j k : ℕ) (buffer buffer′ : List ℕ) (both : Tw
         state-lines .3,
         length-right (length (buffer ++ buffer′)) (blocksBytes i (j + k)) both-long,
         le-ltb (j + k) 1 (omega (arith, p .some)),
-        le-ltb 1024 (j + k) (both .in-one),
+        le-ltb mostBlocks (j + k) (both .in-one),
         le-ltb extraLimit (s .extra + (j + k)) (omega (arith, q .room, more-extra)),
       )
 
@@ -200,5 +200,5 @@ module _ (i : ℕ) (is-instance : isInstance i ≡ true) (calls : List Call) whe
       ∙ ap (givenOut i) (sym (accepted-grows i m call taken))
 
 pub more-blocks : MoreBlocks
-unfolding SqueezeSound AtOnce DigestFirst BlocksNext
+unfolding AtOnce DigestFirst BlocksNext
 more-blocks = record { squeeze-sound = squeeze-sound; at-once = one-call; digest-first = first-out; blocks-next = next-out }

@@ -11,10 +11,16 @@ use Rattle.refusals.proofs.Outcome.{refused-outcome, accepted-outcome, refused-
 use Rattle.quark.specs.Instance.{isInstance, isWidth, stateBytes}
 use Rattle.permutation.specs.Lines.{line1, line4}
 use Rattle.sponge.specs.declared.State.{State}
-use Rattle.sponge.specs.Soundness.{limit, extraLimit, sound}
+use Rattle.sponge.specs.Soundness.{limit, extraLimit, mostBlocks, sound}
 use Rattle.sponge.specs.Outcomes.{Result, resultBy, line2, line3, line3Squeeze, line6, line7, line14, line15, blocksBytes, absorbNumber, finishNumber, squeezeNumber, digestNumber}
-use Rattle.sponge.specs.leaf.Ready.{Ready}
+use Rattle.sponge.specs.leaf.Ready.{ZeroPast, Ready}
 use Rattle.sponge.proofs.Soundness.{Absorbing, absorbing, Closed, closed}
+
+-- lines 1 and 4, and the zeros of a sound state
+ready-passed : (s : State) (w : ℕ) → line1 (s .instance) ≡ false → line4 (s .instance) w ≡ false → ZeroPast s → Ready s w
+unfolding line1 line4
+ready-passed s w one four zeros =
+    record { is-instance = not-false (isInstance (s .instance)) one; width = not-false (isWidth (s .instance) w) four; zero-past = zeros }
 
 -- ---- a piece and a finish
 
@@ -24,13 +30,10 @@ record StatePassed (s : State) (w : ℕ) : Type 0 where
   pub ready : Ready s w
 
 state-passed : (s : State) (w : ℕ) → line1 (s .instance) ≡ false → line2 s ≡ false → line3 s ≡ false → line4 (s .instance) w ≡ false → StatePassed s w
-unfolding line1 line2 line3 line4
+unfolding line2 line3
 state-passed s w one two three four =
     let state = absorbing s (not-false (sound s) two) three in
-    record {
-      state = state;
-      ready = record { is-instance = not-false (isInstance (s .instance)) one; width = not-false (isWidth (s .instance) w) four; zero-past = state .zeros };
-    }
+    record { state = state; ready = ready-passed s w one four (state .zeros) }
 
 pub record AbsorbPassed (s : State) (w bytes count : ℕ) : Type 0 where
   pub state : Absorbing s
@@ -69,21 +72,21 @@ pub record SqueezePassed (s : State) (w k buffer : ℕ) : Type 0 where
   pub ready : Ready s w
   pub fits : buffer ≡ blocksBytes (s .instance) k
   pub some : 1 ≤ k
-  pub at-most : k ≤ 1024
+  pub at-most : k ≤ mostBlocks
   pub room : s .extra + k ≤ extraLimit
 
 pub squeeze-passed : (s : State) (w k buffer : ℕ) → squeezeNumber s w k buffer ≡ 0 → SqueezePassed s w k buffer
-unfolding squeezeNumber line1 line2 line3Squeeze line4 line14 line15
+unfolding squeezeNumber line2 line3Squeeze line14 line15
 squeeze-passed s w k buffer e =
     let none = none-holds _ refl e in
     let state = closed s (not-false (sound s) (search none)) (search none) in
-    let range = neither (ltb k 1) (ltb 1024 k) (search none) in
+    let range = neither (ltb k 1) (ltb mostBlocks k) (search none) in
     record {
       state = state;
-      ready = record { is-instance = not-false (isInstance (s .instance)) (search none); width = not-false (isWidth (s .instance) w) (search none); zero-past = state .zeros };
+      ready = ready-passed s w (search none) (search none) (state .zeros);
       fits = right-length buffer (blocksBytes (s .instance) k) (search none);
       some = ltb-false k 1 (range .0);
-      at-most = ltb-false 1024 k (range .1);
+      at-most = ltb-false mostBlocks k (range .1);
       room = ltb-false extraLimit (s .extra + k) (search none);
     }
 

@@ -9,7 +9,7 @@ use Rattle.quark.specs.Bytes.{tabulate, bitAt, bitsOf}
 use Rattle.quark.specs.Instance.{instanceOf, U, D, S, isInstance, isWidth, stateBytes}
 use Rattle.permutation.specs.Lines.{line1, line4}
 use Rattle.sponge.specs.declared.State.{State}
-use Rattle.sponge.specs.Soundness.{allZero, soundRuns, mostExtra, sound}
+use Rattle.sponge.specs.Soundness.{allZero, soundRuns, mostExtra, sound, allZeros}
 use Rattle.sponge.specs.Outcomes.{line2, line3Squeeze, line6, line7, line8, line14, line15, blocksBytes, squeezeNumber, digestNumber}
 use Rattle.sponge.specs.Calls.{Message, piece, finish, squeeze, messageNumber, grown, extended, extendedBy, messageOf}
 
@@ -42,6 +42,8 @@ edges = (refl, refl, refl, refl, refl, refl, refl, refl, refl, refl, refl, refl,
 pub extra-edges :
     -- 0, 1, 1,024 and 1,025 blocks asked for
     (line14 0 ≡ true) × (line14 1 ≡ false) × (line14 1024 ≡ false) × (line14 1025 ≡ true)
+    -- the bytes of 3 blocks
+    × (blocksBytes 1 3 ≡ 3) × (blocksBytes 2 3 ≡ 6) × (blocksBytes 3 3 ≡ 12)
     -- 1,048,576 extra blocks, and one more
     × (line15 1047552 1024 ≡ false) × (line15 1047553 1024 ≡ true)
     -- the closed state of U with 17 bits has a run more for each extra block, up to 1,048,576 of them
@@ -52,8 +54,10 @@ pub extra-edges :
     -- and an absorbing state has none
     × (soundAt 1 0 17 2 1 0 ≡ false)
     × (soundAt 1 0 17 3 1 0 ≡ false)
-unfolding line14 line15 soundAt sound soundRuns mostExtra allZero stateBytes instanceOf U
-extra-edges = (refl, refl, refl, refl, refl, refl, refl, refl, refl, refl, refl, refl)
+    -- what comes back where the instance is refused has none either
+    × (allZeros ≡ stateAt 0 0 0 0 0 0)
+unfolding line14 line15 blocksBytes soundAt sound soundRuns mostExtra allZero stateBytes instanceOf U D S
+extra-edges = (refl, refl, refl, refl, refl, refl, refl, refl, refl, refl, refl, refl, refl, refl, refl, refl)
 
 -- a whole digest that several lines refuse answers the first of them: lines 1, 4, 5 and 6, then 4, 5 and 6, then 5 and 6, then 6 and 7, then 7
 -- alone, and then none
@@ -63,18 +67,19 @@ pub order :
 unfolding digestNumber firstLine line1 line4 line5 line6 line7 line8 isInstance isWidth stateBytes instanceOf U
 order = (refl, refl, refl, refl, refl, refl)
 
--- what squeeze answers a state of U, or of no instance, of no bits and with all bits zero
+-- what squeeze answers a state of no bits taken, with all bits zero
 pub squeezeAt : (instance phase runs extra w k buffer : ℕ) → ℕ
 squeezeAt instance phase runs extra w k buffer = squeezeNumber (stateAt instance phase 0 runs extra 0) w k buffer
 
--- a squeeze that several lines refuse answers the first of them: line 1 and all after it, then 2, an absorbing state, 4, 5, 14 and 15 in
--- turn, and then none. No blocks are 14 with an empty buffer, and else 5
+-- a squeeze that several lines refuse answers the first of them: lines 1, 2 and 3 each with all lines after it, then 4, 5, 14 and 15 in turn,
+-- and then none. k = 0 is 14 with an empty buffer, and else 5. S alone has width 16
 pub squeeze-order :
-    (squeezeAt 0 2 0 1 2 1025 0 ≡ 1) × (squeezeAt 1 2 0 1 2 1025 0 ≡ 2) × (squeezeAt 1 0 0 0 2 1025 0 ≡ 3) × (squeezeAt 1 1 1048593 1048576 2 1025 0 ≡ 4)
+    (squeezeAt 0 0 0 1048577 2 1025 0 ≡ 1) × (squeezeAt 1 0 0 1048577 2 1025 0 ≡ 2) × (squeezeAt 1 0 0 0 2 1048577 0 ≡ 3) × (squeezeAt 1 1 1048593 1048576 2 1025 0 ≡ 4)
     × (squeezeAt 1 1 1048593 1048576 8 1025 1024 ≡ 5) × (squeezeAt 1 1 1048593 1048576 8 1025 1025 ≡ 14) × (squeezeAt 1 1 1048593 1048576 8 1 1 ≡ 15)
     × (squeezeAt 1 1 1048592 1048575 8 1 1 ≡ 0) × (squeezeAt 1 1 17 0 8 0 0 ≡ 14) × (squeezeAt 1 1 17 0 8 0 1 ≡ 5)
-unfolding squeezeAt squeezeNumber firstLine line1 line2 line3Squeeze line4 line5 line14 line15 blocksBytes sound soundRuns mostExtra allZero isInstance isWidth stateBytes instanceOf U
-squeeze-order = (refl, refl, refl, refl, refl, refl, refl, refl, refl, refl)
+    × (squeezeAt 2 1 11 0 16 1 2 ≡ 4) × (squeezeAt 3 1 8 0 16 1 4 ≡ 0)
+unfolding squeezeAt squeezeNumber firstLine line1 line2 line3Squeeze line4 line5 line14 line15 blocksBytes sound soundRuns mostExtra allZero isInstance isWidth stateBytes instanceOf U D S
+squeeze-order = (refl, refl, refl, refl, refl, refl, refl, refl, refl, refl, refl, refl)
 
 -- a list of calls of U: a piece of 3 bits, one whose width is refused, one that is too short, a finish whose buffer is too short, a squeeze
 -- that comes too early, a piece of 6 bits, a finish, 2 blocks, a squeeze whose buffer is too short, 3 blocks, and a piece that comes too late

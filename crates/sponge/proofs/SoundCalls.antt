@@ -18,6 +18,7 @@ use Rattle.sponge.specs.Taking.{takeBits, finished, extraSqueezed}
 use Rattle.sponge.specs.Soundness.{absorbingPhase, closedPhase, soundRuns, mostExtra, sound, contentOf}
 use Rattle.sponge.specs.Outcomes.{resultBy, initResult, absorbNumber, absorbResult, finishNumber, finishResult, squeezeNumber, squeezeResult}
 use Rattle.sponge.specs.Calls.{empty}
+use Rattle.sponge.specs.MoreBlocks.{SqueezeSound}
 use Rattle.sponge.proofs.AfterTaking.{wide-take-bits, wide-finished, total-take-bits, extra-take-bits, runs-take-bits, runs-finished}
 use Rattle.sponge.proofs.Contents.{wide-content}
 use Rattle.sponge.proofs.Soundness.{sound-state}
@@ -54,8 +55,8 @@ finish-sound s w buffer e =
     (sound-state i closedPhase (finished I (contentOf s)) (wide-finished I R (contentOf s) (wide-content s)) (p .state .total-within) (omega (arith, p .state .no-extra))
     (runs-finished I R (contentOf s) (p .state .runs-are) ∙ omega (arith, p .state .no-extra)) refl)
 
-pub squeeze-sound : (s : State) (w k buffer : ℕ) → squeezeNumber s w k buffer ≡ 0 → sound (squeezeResult s w k buffer .state) ≡ true
-unfolding squeezeResult resultBy contentOf extraSqueezed soundRuns mostExtra
+pub squeeze-sound : SqueezeSound
+unfolding SqueezeSound squeezeResult resultBy contentOf extraSqueezed soundRuns mostExtra
 squeeze-sound s w k buffer e =
     let i = s .instance in
     let I = instanceOf i in

@@ -1,5 +1,5 @@
--- Demand 3: the state after a list is the one that the list's message and extras determine, and two closed states are compared by the definition's
--- sponge over the two messages.
+-- Demand 3: the state after a list is the one that the list's message and extras determine, and two closed states are compared by the
+-- definition's sponge over the two messages.
 use mathlib.Core.Bool.{true}
 use mathlib.Core.List.{List, [], _∷_}
 use mathlib.Core.Logic.{_↔_, _⊎_}
@@ -76,7 +76,7 @@ module _ (i : ℕ) (calls calls′ : List Call) (both : Comparable i calls calls
   abbrev m′ : List ℕ
   m′ = bitsIn i calls′
 
-  -- two lists close alike exactly when their messages do: as many extra blocks neither join states nor part them
+  -- two lists close alike exactly when their messages do: equally many extra blocks neither join states nor part them
   messages-alike : ListsCloseAlike i calls calls′ ↔ CloseAlike (instanceOf i) m m′
   unfolding ListsCloseAlike
   messages-alike =

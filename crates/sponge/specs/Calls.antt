@@ -44,7 +44,7 @@ run i calls = runFrom (initResult i .state) calls
 
 -- ---- the message of a list, worked out from arguments and from no state
 
--- its bits, and whether it is closed; and beside it the extras, the blocks yielded since the finish
+-- its bits, and whether it is closed; and beside it the extras, the blocks given out since the finish
 pub record Message : Type 0 where
   pub bits : List ℕ
   pub closed : Bool

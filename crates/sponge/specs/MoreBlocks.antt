@@ -9,7 +9,7 @@ use Rattle.quark.specs.Bytes.{bytesOf}
 use Rattle.quark.specs.Instance.{instanceOf, isInstance, stateBytes}
 use Rattle.quark.specs.Sponge.{absorbed, output}
 use Rattle.sponge.specs.declared.State.{State}
-use Rattle.sponge.specs.Soundness.{sound}
+use Rattle.sponge.specs.Soundness.{mostBlocks, sound}
 use Rattle.sponge.specs.Outcomes.{finishNumber, finishBytes, blocksBytes, squeezeNumber, squeezeResult, squeezeBytes}
 use Rattle.sponge.specs.Calls.{Call, finish, squeeze, run, Message, extended, messageOf}
 
@@ -23,7 +23,7 @@ SqueezeSound = (s : State) (w k buffer : ℕ) → squeezeNumber s w k buffer ≡
 pub record TwoCalls (s : State) (w w′ j k : ℕ) (buffer buffer′ : List ℕ) : Type 0 where
   pub first : squeezeNumber s w j (length buffer) ≡ 0
   pub second : squeezeNumber (squeezeResult s w j (length buffer) .state) w′ k (length buffer′) ≡ 0
-  pub in-one : j + k ≤ 1024
+  pub in-one : j + k ≤ mostBlocks
 
 -- one call for all the blocks is accepted, leaves the same state and writes the same bytes
 pub record OneCall (s : State) (w w′ j k : ℕ) (buffer buffer′ : List ℕ) : Type 0 where

@@ -1,5 +1,5 @@
--- What each operation answers, for every input (document 01, "Pieces and finish"; document 02, 2.1; the lines are those of docs/RULES.md). Where a call is
--- refused, the lent bytes are as they were, and so is the state, where one was given.
+-- What each operation answers, for every input (document 01, "Pieces and finish"; document 02, 2.1; the lines are those of docs/RULES.md).
+-- Where a call is refused, the lent bytes are as they were, and so is the state, where one was given.
 use mathlib.Core.Bool.{Bool, not, _||_, cond}
 use mathlib.Core.List.{List, [], _∷_}
 use Prim.Native.Nat.{ℕ, _+_, _*_, _-_, _/_, _%_}
@@ -14,7 +14,7 @@ use Rattle.permutation.specs.Lines.{line1, line4}
 use Rattle.sponge.specs.declared.State.{State}
 use Rattle.sponge.specs.declared.Reply.{Reply}
 use Rattle.sponge.specs.Taking.{takeBits, finishOutput, finished, squeezeOutput, extraSqueezed}
-use Rattle.sponge.specs.Soundness.{limit, extraLimit, absorbingPhase, closedPhase, sound, contentOf, stateWith, fresh, allZeros}
+use Rattle.sponge.specs.Soundness.{limit, extraLimit, mostBlocks, absorbingPhase, closedPhase, sound, contentOf, stateWith, fresh, allZeros}
 
 -- ---- the lines
 
@@ -45,7 +45,7 @@ line8 i total = not (eqb ((total + 1 + (instanceOf i .r - 1 - total % instanceOf
 
 -- 14. The number of blocks asked for is not 1 to 1,024.
 unfoldable pub line14 : (k : ℕ) → Bool
-line14 k = ltb k 1 || ltb 1024 k
+line14 k = ltb k 1 || ltb mostBlocks k
 
 -- 15. The state would have given out more than 1,048,576 extra blocks.
 unfoldable pub line15 : (extra k : ℕ) → Bool

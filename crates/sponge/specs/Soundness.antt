@@ -13,9 +13,12 @@ use Rattle.sponge.specs.Taking.{Content}
 abbrev pub limit : ℕ
 limit = 16777215
 
--- the greatest number of extra blocks of a closed state
+-- the greatest number of extra blocks of a closed state, and the greatest in one call
 abbrev pub extraLimit : ℕ
 extraLimit = 1048576
+
+abbrev pub mostBlocks : ℕ
+mostBlocks = 1024
 
 -- the phases
 abbrev pub absorbingPhase : ℕ

@@ -1,5 +1,5 @@
--- Demand 3 of document 01, with document 02, 2.1: the statement about two whole lists of calls, of which any may be refused, each from a fresh state of one and the
--- same instance. Its proof is in proofs/TwoLists.antt.
+-- Demand 3 of document 01, with document 02, 2.1: the statement about two whole lists of calls, of which any may be refused, each from a
+-- fresh state of one and the same instance. Its proof is in proofs/TwoLists.antt.
 use mathlib.Core.Bool.{true, cond}
 use mathlib.Core.List.{List}
 use mathlib.Core.Logic.{_↔_, _⊎_}

@@ -40,7 +40,7 @@ pub struct Reply {
     pub state: State,
 }
 
-// Document 01's fresh state: no bit taken, no run made, and the instance's initial bits.
+// Document 01's fresh state: no bit taken, no run made, no extra block given out, and the instance's initial bits.
 // Refuses by line 1; the state is then all zeros.
 pub fn init(instance: u32) -> Reply
     ensures { λ r. ⌜ resultOf r ≡ initResult instance ⌝ }
@@ -76,7 +76,8 @@ pub fn finish(state: State, width: u32, buffer: &mut [u8]) -> Reply
     replies::accept(output::close(state, width, buffer))
 }
 
-// Document 02's k more blocks: P runs once for each, and then the last r bits of a closed state go into the buffer, k times r/8 bytes in all.
+// Document 02's k more blocks of a closed state: for each, P runs once and the last r bits go into the buffer, k times r/8 bytes in all. The
+// runs and the extra blocks are then k more.
 // Refuses by lines 1, 2, 3, 4, 5, 14 and 15, in this order; the state is then the one that was given, and the buffer is untouched.
 pub fn squeeze(state: State, width: u32, k: usize, buffer: &mut [u8]) -> Reply
     ensures reply { λ r. ⌜ resultOf r ≡ squeezeResult state width k (length (now (buffer .entry))) ⌝ }

@@ -1,15 +1,15 @@
-// The lines (docs/RULES.md) that read a state, a count, a total or a number of blocks, and the order of the lines in each operation. Lines 1 and 4 are the
-// permutation's, and the number of line 5 is in `refusals`.
+// The lines (docs/RULES.md) that read a state, a count, a total or a number of blocks, and the order of the lines in each operation. Lines 1
+// and 4 are the permutation's, and the number of line 5 is in `refusals`.
 ghost use mathlib.Core.Path.{_≡_};
 ghost use Prim.Native.Nat.{_+_};
 ghost use lib.Dec.{ltb};
 ghost use Rattle.refusals.specs.Lines.{line5};
 ghost use Rattle.sponge.specs.Outcomes.{line6, line8, line14, blocksBytes, absorbNumber, finishNumber, squeezeNumber, digestNumber};
 use crate::State;
-use crate::output::MOST_BLOCKS;
 use crate::rate;
 use crate::sound::EXTRA_LIMIT;
 use crate::sound::LIMIT;
+use crate::sound::MOST_BLOCKS;
 use crate::sound::is_absorbing;
 use crate::sound::is_closed;
 use crate::sound::is_sound;
@@ -52,7 +52,7 @@ fn count_over(bytes: usize, count: usize) -> bool
     8 * bytes < count
 }
 
-// Lines 7 and 15: whether a number and what comes to it pass a limit. What alone is over the limit is tested first, so the sum cannot wrap.
+// Lines 7 and 15: whether a number and what is added to it are over a limit. What is added is tested by itself first, so the sum cannot wrap.
 fn sum_over(number: u32, more: usize, limit: u32) -> bool
     ensures { λ r. ⌜ r ≡ ltb limit (number + more) ⌝ }
 {

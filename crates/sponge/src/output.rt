@@ -14,9 +14,6 @@ use crate::pieces;
 use crate::rate;
 use crate::sound::CLOSED;
 
-// The greatest number of extra blocks in one call.
-pub const MOST_BLOCKS: usize = 1024;
-
 // The digest writer: writes a part into the buffer from `at` on.
 fn put(buffer: &mut [u8], at: usize, part: &[u8])
     requires { ⌜ at + length (now part) ≤ length (now buffer) ⌝ }

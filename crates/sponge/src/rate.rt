@@ -38,7 +38,7 @@ pub fn last_block(instance: u32) -> usize
     28
 }
 
-// n/r: how often the last r bits are given out.
+// n/r: how often the last r bits are given out for a digest.
 pub fn outputs(instance: u32) -> usize
     ensures { λ r. ⌜ r ≡ instanceOf instance .n / instanceOf instance .r ⌝ }
 {

@@ -11,8 +11,10 @@ use permutation::lines::state_bytes;
 // The greatest total of bits.
 pub const LIMIT: u32 = 16777215;
 
-// The greatest number of extra blocks.
+// The greatest number of extra blocks, and the greatest in one call.
 pub const EXTRA_LIMIT: u32 = 1048576;
+
+pub const MOST_BLOCKS: usize = 1024;
 
 // The phases.
 pub const ABSORBING: u32 = 0;

@@ -1,5 +1,5 @@
-//! QUARK and the sealed journal once more, written from the paper (document 001) and document 01. It shares no code and no tables with
-//! the Rattle side: the tests compare the two, and what the programs must write comes from here.
+//! QUARK and the sealed journal once more, written from the paper (document 001) and documents 01 and 02. It shares no code and no
+//! tables with the Rattle side: the tests compare the two, and what the programs must write comes from here.
 
 pub mod appendix_b;
 pub mod digest;

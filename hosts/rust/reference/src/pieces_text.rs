@@ -109,7 +109,7 @@ fn blocks(text: &mut String, state: State) {
     let (one, head) = squeezed(text, state, 1, 1, size);
     let (all, bytes) = squeezed(text, state, 8, 1_024, 1_024 * size);
     let whole = whole_digest(state.instance, &bytes, 8 * bytes.len());
-    writeln!(text, "whole digest: 0, {}", hexadecimal::text(&whole.bytes)).unwrap();
+    writeln!(text, "digest of these blocks: 0, {}", hexadecimal::text(&whole.bytes)).unwrap();
     let mut tail = vec![0; 1_023 * size];
     assert_eq!(squeeze(one, 1, 1_023, &mut tail), (0, all));
     assert_eq!([head, tail].concat(), bytes);
@@ -252,6 +252,7 @@ fn forged_states(text: &mut String) {
     row(text, "U, past the limit, width 2", near, 2, 8, 17);
     row(text, "U, no bits near the limit", near, 1, 0, 17);
 
+    // the last state's runs are those of its blocks when the sum is cut to 32 bits
     row(text, "U, extra 1", State { extra: 1, ..u }, 8, 8, 17);
     row(text, "U, extra 1 with its run", State { runs: 3, extra: 1, ..u }, 8, 8, 17);
     row(text, "U, closed, extra 1", State { extra: 1, ..u_closed }, 8, 8, 17);

@@ -1,4 +1,4 @@
--- `sum_over` meets its contract: what comes to a number is over the limit by itself, or the sum does not wrap.
+-- `sum_over` meets its contract: what is added is over the limit by itself, or the sum does not wrap.
 use Prim.Native.Nat.{_+_}
 use native.Mathlib.Omega.{arith}
 use borrow.Author.Needs.{needs}

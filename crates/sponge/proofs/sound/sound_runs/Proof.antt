@@ -1,6 +1,6 @@
 -- `sound_runs` meets its contract: the quotient is at most the total, so the sums do not wrap.
 use mathlib.Core.Path.{ap₂}
-use Prim.Native.Nat.{ℕ, _+_, _/_}
+use Prim.Native.Nat.{ℕ, _+_, _/_, _≤_}
 use native.Mathlib.Nat.{div-le-self}
 use native.Mathlib.Omega.{arith}
 use borrow.Author.Tests.{eq-eqb, ne-eqb}
@@ -23,15 +23,17 @@ returns c = simp (eq-eqb _ _ (c .if1 .taken), ← c .before .rate .ensures)
 outputs-requires : tie.Need-outputs-requires
 outputs-requires c κs = tt
 
-add-result : tie.Need-add-result
-add-result c =
+small : (c : tie.After-outputs) → let a = c .before .before .before .args in
+    (c .outputs .result ≤ 17) × (a .total / c .before .before .rate .result ≤ a .total)
+small c =
     let a = c .before .before .before .args in
-    omega (arith, outputs-small (a .instance), div-le-self (a .total) (c .before .before .rate .result))
+    (omega (arith, c .outputs .ensures, outputs-small (a .instance)), div-le-self (a .total) (c .before .before .rate .result))
+
+add-result : tie.Need-add-result
+add-result c = omega (arith, small c)
 
 add-result-2 : tie.Need-add-result-2
-add-result-2 c =
-    let a = c .before .before .before .args in
-    omega (arith, outputs-small (a .instance), div-le-self (a .total) (c .before .before .rate .result))
+add-result-2 c = omega (arith, small c)
 
 returns-2 : tie.Need-returns-2
 unfolding soundRuns
