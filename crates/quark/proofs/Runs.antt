@@ -26,17 +26,16 @@ module _ (I : Instance) where
   runs-squeezed zero s = omega arith
   runs-squeezed (suc k) s = omega (arith, runs-squeezed k s)
 
-  -- k runs after one run are k + 1
-  pub squeezed-run : (k : ℕ) (s : Counted) → squeezed I k (runP I s) ≡ squeezed I (suc k) s
-  unfolding squeezed
-  squeezed-run zero s = refl
-  squeezed-run (suc k) s = ap (runP I) (squeezed-run k s)
-
   -- j runs, and then k
   pub squeezed-squeezed : (j k : ℕ) (s : Counted) → squeezed I k (squeezed I j s) ≡ squeezed I (j + k) s
   unfolding squeezed
   squeezed-squeezed j zero s = ap (λ (n : ℕ). squeezed I n s) (sym (add-zero j))
   squeezed-squeezed j (suc k) s = ap (runP I) (squeezed-squeezed j k s) ∙ ap (λ (n : ℕ). squeezed I n s) (sym (add-suc j k))
+
+  -- one run, and then k
+  pub squeezed-run : (k : ℕ) (s : Counted) → squeezed I k (runP I s) ≡ squeezed I (suc k) s
+  unfolding squeezed
+  squeezed-run k s = let next : 1 + k ≡ suc k = omega arith in squeezed-squeezed 1 k s ∙ ap (λ (n : ℕ). squeezed I n s) next
 
   -- j blocks, and then k from where they end
   pub output-append : (j k : ℕ) (s : Counted) → output I j s ++ output I k (squeezed I j s) ≡ output I (j + k) s

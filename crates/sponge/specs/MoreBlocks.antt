@@ -19,7 +19,7 @@ SqueezeSound = (s : State) (w k buffer : ℕ) → squeezeNumber s w k buffer ≡
 
 -- ---- j blocks and then k are j + k at once
 
--- two calls in a row that are accepted, on a state s and on what the first hands back, with blocks enough for one call
+-- two calls in a row that are accepted, on a state s and on what the first hands back, for no more blocks together than one call gives
 pub record TwoCalls (s : State) (w w′ j k : ℕ) (buffer buffer′ : List ℕ) : Type 0 where
   pub first : squeezeNumber s w j (length buffer) ≡ 0
   pub second : squeezeNumber (squeezeResult s w j (length buffer) .state) w′ k (length buffer′) ≡ 0
