@@ -37,8 +37,8 @@ pub record Follows (i : ℕ) (m : Message) (s : State) : Type 0 where
 unfoldable pub RunFollows : Type 0
 RunFollows = (i : ℕ) → isInstance i ≡ true → (calls : List Call) → Follows i (messageOf i calls) (run i calls)
 
--- and the message determines what each further call answers: in a list lines 1, 2 and 8 never refuse; of pieces and finishes 3 is said
--- to a closed message alone, and of squeezes to an open one
+-- and the message determines what each further call answers: in a list lines 1, 2 and 8 never refuse, and 3 refuses a piece or a finish
+-- on a closed message alone, and a squeeze on an open one alone
 unfoldable pub AnswersFollow : Type 0
 AnswersFollow =
     (i : ℕ) → isInstance i ≡ true → (calls : List Call) (call : Call) → stateNumber (run i calls) call ≡ messageNumber i (messageOf i calls) call
