@@ -12,4 +12,5 @@ pub mod KeyAndJournal
 pub mod FirstBytes
 pub mod Fits
 pub mod SealedInTurn
+pub mod BlankKey
 pub mod Samples

@@ -14,7 +14,8 @@ use libc::STDIN_FILENO;
 use libc::STDOUT_FILENO;
 
 // How many bytes to report on where a read failed, which is said on standard error. Fewer than a key are refused by line 5. Else it is the
-// whole buffer, which line 9 refuses as over-long, so that a failed read is never accepted.
+// whole buffer, which line 16 refuses where the key is blank, and line 9 as over-long where it is not, so that a failed read is never
+// accepted.
 fn after_failed_read(done: usize) -> usize
     ensures { λ r. ⌜ (r ≤ mostRead) × (done < 16 → r ≡ done) × (16 ≤ done → r ≡ mostRead) ⌝ }
 {

@@ -1,6 +1,7 @@
 -- The laws of this crate.
 pub mod Taking
 pub mod AfterTaking
+pub mod AllZero
 pub mod StateBytes
 pub mod Soundness
 pub mod Contents

@@ -1,13 +1,13 @@
 -- A state's 32 bytes and its b bits: they determine each other where every byte from b/8 on is zero; and what the code does to the bytes
 -- is what the definition does to the bits.
-use mathlib.Core.Bool.{true, not, _||_, and-eq-true-iff}
-use mathlib.Core.List.{List, [], _∷_, _++_, append-nil}
+use mathlib.Core.Bool.{true, not, _||_}
+use mathlib.Core.List.{List, [], _++_, append-nil}
 use mathlib.Core.Path.{_≡_, refl, sym, ap, ap₂, _∙_, subst}
 use Prim.Native.Nat.{ℕ, zero, suc, _+_, _*_, _-_, _/_, _%_, _^_, _<_, _≤_}
 use native.Mathlib.Nat.{div-add-mod', add-zero, add-assoc, mod-add-mod, mod-mod, mul-div-cancel, mod-eq-of-lt, div-eq-of-lt, mul-assoc, pow-suc, mul-le-mul, mul-le-mul-right, min-le-left}
 use native.Mathlib.Decide.{decLt, ℕ-discrete}
 use native.Mathlib.Omega.{arith}
-use borrow.Author.Tests.{eqb-true, eq-eqb, ne-eqb}
+use borrow.Author.Tests.{eq-eqb, ne-eqb}
 use lib.Bits.{bitXor, xor-lt}
 use lib.Dec.{eqb}
 use lib.ListN.{length, getD, set, take, drop, replicate, length-drop, length-take, length-set, take-append-drop, List·getD-eq-default, length-replicate}
@@ -25,6 +25,7 @@ use Rattle.permutation.specs.Permute.{onBytes}
 use Rattle.sponge.specs.Soundness.{allZero}
 use Rattle.sponge.specs.leaf.Ready.{lastBytes}
 use Rattle.sponge.proofs.Taking.{divided}
+use Rattle.sponge.proofs.AllZero.{zeros-of, all-zero}
 
 -- every element is a byte
 abbrev pub Bytes : List ℕ → Type 0
@@ -194,18 +195,6 @@ module _ (l : List ℕ) (at x : ℕ) (within : at / 8 < length l) (single : x < 
       ]
 
 -- ---- zeros after b/8 bytes
-
-zeros-of : (l : List ℕ) → allZero l ≡ true → l ≡ replicate (length l) 0
-unfolding allZero
-zeros-of [] e = refl
-zeros-of (x ∷ l) e =
-    let both = and-eq-true-iff (eqb x 0) (allZero l) .0 e in
-    ap₂ (λ (a : ℕ) (m : List ℕ). a ∷ m) (eqb-true x 0 (both .0)) (zeros-of l (both .1))
-
-all-zero : (l : List ℕ) → ((j : ℕ) → getD l j 0 ≡ 0) → allZero l ≡ true
-unfolding allZero
-all-zero [] h = refl
-all-zero (x ∷ l) h = rw (eq-eqb x 0 (h 0)) (all-zero l (λ j. h (suc j)))
 
 module _ (i : ℕ) where
   -- b bits in 32 bytes, and out of them

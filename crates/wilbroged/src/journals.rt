@@ -16,8 +16,8 @@ fn number_of_sealed(sealed: Sealed) -> u32
     }
 }
 
-// Writes body and seal to the record. 0; or the number of the first of lines 5 and 10 that holds, and the record is untouched. The body
-// must not lie in the record's buffer.
+// Writes body and seal to the record. 0; or the number of the first of lines 5, 16 and 10 that holds, and the record is untouched. The
+// body must not lie in the record's buffer.
 #[no_mangle]
 pub extern "C" fn journal_seal(key: &[u8], previous: &[u8], body: &[u8], record: &mut [u8]) -> u32
     ensures number { λ r. ⌜ r ≡ numberOf (sealOutcome (now (key .entry)) (now (previous .entry)) (now (body .entry)) (now («record» .entry))) ⌝ }
@@ -26,7 +26,7 @@ pub extern "C" fn journal_seal(key: &[u8], previous: &[u8], body: &[u8], record:
     number_of_sealed(journal::seal(key, previous, body, record))
 }
 
-// Checks a journal. 0; or the number of the first of lines 5 and 9 that holds, else of lines 10, 11 and 12 record by record.
+// Checks a journal. 0; or the number of the first of lines 5, 16 and 9 that holds, else of lines 10, 11 and 12 record by record.
 #[no_mangle]
 pub extern "C" fn journal_verify(key: &[u8], journal: &[u8]) -> u32
     ensures { λ r. ⌜ r ≡ numberOf (verifyOutcome today (now (key .entry)) (now (journal .entry))) ⌝ }

@@ -1,25 +1,13 @@
 -- `zero_from` meets its contract: the bytes from i on decide, and those before are zero.
-use mathlib.Core.Bool.{false}
-use mathlib.Core.List.{List}
 use mathlib.Core.Path.{_≡_, sym, _∙_}
-use Prim.Native.Nat.{ℕ, _+_, _<_, _-_}
-use native.Mathlib.Numerals.{add-one}
+use Prim.Native.Nat.{_<_, _-_}
 use native.Mathlib.Omega.{arith}
 use borrow.Author.Needs.{needs}
-use borrow.Author.Tests.{ne-eqb}
-use lib.ListN.{length, drop, drop-of-length-le, getD}
-use lib.Seq.{drop-cons}
+use lib.ListN.{length, drop}
 use Rattle.sponge.specs.Soundness.{allZero}
+use Rattle.sponge.proofs.AllZero.{zero-at, not-zero-at, zero-past-end}
 use Rattle.sponge.proofs.sound.zero_from.Statement.{statement}
 use Rattle.sponge.proofs.sound.zero_from.Tie as tie
-
-zero-at : (l : List ℕ) (i : ℕ) → i < length l → getD l i 0 ≡ 0 → allZero (drop i l) ≡ allZero (drop (i + 1) l)
-unfolding allZero
-zero-at l i k e = rw (drop-cons l i 0 k, add-one) (rw e)
-
-not-zero-at : (l : List ℕ) (i : ℕ) → i < length l → (getD l i 0 ≡ 0 → ⊥) → allZero (drop i l) ≡ false
-unfolding allZero
-not-zero-at l i k e = rw (drop-cons l i 0 k) (rw (ne-eqb _ _ e))
 
 abbrev Inv-loop : tie.InvT-loop
 Inv-loop start bits i₀ i = allZero (drop start bits) ≡ allZero (drop i bits)
@@ -56,12 +44,11 @@ loop-again c =
     at-loop .inv ∙ zero-at bits (at-loop .i) k (c .if1 .left)
 
 returns-2 : tie.Need-returns-2 Inv-loop μ-loop
-unfolding allZero
 returns-2 c =
     let bits = c .before .before .args .t1 in
     let at-loop = c .before .loop in
     let n : length bits ≡ 32 = search needs in
-    sym (at-loop .inv ∙ rw (drop-of-length-le bits {i = at-loop .i} (omega arith)))
+    sym (at-loop .inv ∙ zero-past-end bits (at-loop .i) (omega arith))
 
 pub zero-from-spec : {M : Type 1} → statement M
 zero-from-spec =
