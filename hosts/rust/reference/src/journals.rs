@@ -1,6 +1,17 @@
-//! Test journals: bodies that follow, sealed in turn, and damage to them.
-use crate::journal::{seal_of, Body, BODY, RECORD, SEAL};
+//! Test journals: bodies that follow, sealed in turn, and damage to them. They are made under any key: under a blank one every seal is
+//! right, and line 16 alone refuses the journal. And keys that are nearly blank.
+use crate::journal::{seal_of, Body, BLANK_KEY, BODY, KEY, RECORD, SEAL};
 use crate::random::Random;
+
+/// Keys with one byte that is not zero: each of the sixteen in turn, with its lowest bit and with its highest.
+pub fn nearly_blank_keys() -> Vec<[u8; KEY]> {
+    let with = |at, byte| {
+        let mut key = BLANK_KEY;
+        key[at] = byte;
+        key
+    };
+    (0..KEY).flat_map(|at| [with(at, 1), with(at, 0x80)]).collect()
+}
 
 /// Bodies that keep the layout, each of which follows the one before.
 pub fn bodies(random: &mut Random, records: usize) -> Vec<Body> {
