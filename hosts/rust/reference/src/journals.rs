@@ -3,14 +3,15 @@
 use crate::journal::{seal_of, Body, BLANK_KEY, BODY, KEY, RECORD, SEAL};
 use crate::random::Random;
 
-/// Keys with one byte that is not zero: each of the sixteen in turn, with its lowest bit and with its highest.
+/// Keys that a wrong test takes for blank: one byte is not zero, each of the sixteen in turn, with its lowest bit and with its highest; and
+/// bytes whose sum modulo 256 is 0.
 pub fn nearly_blank_keys() -> Vec<[u8; KEY]> {
     let with = |at, byte| {
         let mut key = BLANK_KEY;
         key[at] = byte;
         key
     };
-    (0..KEY).flat_map(|at| [with(at, 1), with(at, 0x80)]).collect()
+    (0..KEY).flat_map(|at| [with(at, 1), with(at, 0x80)]).chain([[0x80; KEY]]).collect()
 }
 
 /// Bodies that keep the layout, each of which follows the one before.
