@@ -34,7 +34,7 @@
 #include <stdint.h>
 
 /* The version of the project, of which this header and the archive are a part. */
-#define WILBROGED_VERSION "0.1.0"
+#define WILBROGED_VERSION "0.2.0"
 
 /* U-QUARK, D-QUARK and S-QUARK: the number of the instance, the bytes of a state and of a digest, and the widest step width. */
 #define WILBROGED_U 1
@@ -77,6 +77,8 @@
 #define WILBROGED_NOT_FOLLOWING 11
 /* The seal is not the one that the record must have. */
 #define WILBROGED_DIFFERENT_SEAL 12
+/* Every byte of the key is zero. */
+#define WILBROGED_BLANK_KEY 16
 
 /* Stands before a function whose answer says whether the call was refused: a warning where the answer is ignored. */
 #if (defined(__cplusplus) && __cplusplus >= 201703L) || (defined(__STDC_VERSION__) && __STDC_VERSION__ >= 202311L)
@@ -118,7 +120,8 @@ uint32_t quark_digest(uint32_t instance, uint32_t width, const uint8_t *message,
  * Seals a body: writes it to the record, and its seal after it. The previous seal is the last 17 bytes of the record before, zeros for a
  * first record. It is taken on trust, and so are the body's station, sequence and time: 10 reads kind, lamp position, milliseconds and
  * bytes 18-22 alone. journal_verify tests the rest.
- * Refuses by 5 (key_len is not 16, previous_len not 17, body_len not 23 or record_len not 40) and 10, in this order.
+ * Refuses by 5 (key_len is not 16, previous_len not 17, body_len not 23 or record_len not 40), 16 (every byte of the key is zero) and 10,
+ * in this order.
  *
  * The body must not lie in the record's buffer: build it elsewhere. Nor may the key or the previous seal; the record just
  * before the buffer, which ends with the previous seal, does not overlap it.
@@ -138,10 +141,11 @@ uint32_t journal_seal(const uint8_t *key, size_t key_len, const uint8_t *previou
                       size_t body_len, uint8_t *record, size_t record_len);
 
 /*
- * Checks a journal, 0 to 1,600 records one after the other: it is accepted where every record keeps the layout, follows the one before
- * (the first has sequence 1) and has its seal. A journal that was cut after a whole record is accepted too, and so is an empty one:
- * compare journal_len / 40 with the count of records that you expect. It writes nothing.
- * Refuses by 5 (key_len is not 16) and 9, in this order, then for each record in turn by 10, 11 and 12, in this order.
+ * Checks a journal, 0 to 1,600 records one after the other: it is accepted where the key has a byte that is not zero, and every record
+ * keeps the layout, follows the one before (the first has sequence 1) and has its seal. A journal that was cut after a whole record is
+ * accepted too, and so is an empty one: compare journal_len / 40 with the count of records that you expect. It writes nothing.
+ * Refuses by 5 (key_len is not 16), 16 (every byte of the key is zero) and 9, in this order, then for each record in turn by 10, 11 and 12,
+ * in this order.
  */
 WILBROGED_NODISCARD
 uint32_t journal_verify(const uint8_t *key, size_t key_len, const uint8_t *journal, size_t journal_len);

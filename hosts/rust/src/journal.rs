@@ -20,7 +20,7 @@ extern "C" {
 /// Writes the body and its seal to `record`. The previous seal is the one of the record before, and zeros for the first; it and the body's
 /// station, sequence and time are taken on trust, and [`verify`] tests them. Refused, in this order, by `WRONG_LENGTH`, where the lengths are
 /// not [`KEY_BYTES`](crate::KEY_BYTES), [`SEAL_BYTES`](crate::SEAL_BYTES), [`BODY_BYTES`](crate::BODY_BYTES) and
-/// [`RECORD_BYTES`](crate::RECORD_BYTES), and `BROKEN_LAYOUT`.
+/// [`RECORD_BYTES`](crate::RECORD_BYTES), `BLANK_KEY` and `BROKEN_LAYOUT`, each with no place.
 ///
 /// The body, numbers with the high byte first:
 ///
@@ -48,6 +48,10 @@ extern "C" {
 /// assert_eq!(record[..BODY_BYTES], body);
 /// assert_eq!(verify(&key, &record), Ok(()));
 ///
+/// // A blank key seals nothing.
+/// let refused = seal(&[0; KEY_BYTES], &[0; SEAL_BYTES], &body, &mut record);
+/// assert_eq!(refused, Err(Refused { number: Refused::BLANK_KEY, place: None }));
+///
 /// // There is no lamp position 7.
 /// body[13] = 7;
 /// assert_eq!(seal(&key, &[0; SEAL_BYTES], &body, &mut record).unwrap_err().number, Refused::BROKEN_LAYOUT);
@@ -68,8 +72,9 @@ pub fn seal(key: &[u8], previous: &[u8], body: &[u8], record: &mut [u8]) -> Resu
     })
 }
 
-/// Checks a journal: no error where every record keeps the layout, follows and has its seal. Refused, in this order, by `WRONG_LENGTH`, of
-/// the key, and `WRONG_JOURNAL_LENGTH`; then record by record, with its index, by `BROKEN_LAYOUT`, `NOT_FOLLOWING` and `DIFFERENT_SEAL`.
+/// Checks a journal: no error where the key has a byte that is not zero, and every record keeps the layout, follows and has its seal.
+/// Refused, in this order, by `WRONG_LENGTH`, of the key, `BLANK_KEY` and `WRONG_JOURNAL_LENGTH`, each with no place; then record by record,
+/// with its index, by `BROKEN_LAYOUT`, `NOT_FOLLOWING` and `DIFFERENT_SEAL`.
 ///
 /// A journal that was cut after a whole record is accepted: compare `journal.len() / RECORD_BYTES` with the number of records that there
 /// should be.
@@ -88,6 +93,9 @@ pub fn seal(key: &[u8], previous: &[u8], body: &[u8], record: &mut [u8]) -> Resu
 /// assert_eq!(verify(&key, &journal), Err(Refused { number: Refused::NOT_FOLLOWING, place: Some(1) }));
 ///
 /// assert_eq!(verify(&key, &journal[1..]), Err(Refused { number: Refused::WRONG_JOURNAL_LENGTH, place: None }));
+///
+/// // Under a blank key no journal is accepted, an empty one neither.
+/// assert_eq!(verify(&[0; 16], &[]), Err(Refused { number: Refused::BLANK_KEY, place: None }));
 /// # Ok::<(), Refused>(())
 /// ```
 pub fn verify(key: &[u8], journal: &[u8]) -> Result<(), Refused> {

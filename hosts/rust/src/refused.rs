@@ -56,6 +56,7 @@ refusals! {
     10 BROKEN_LAYOUT "A field of the body has a value that the layout does not allow."
     11 NOT_FOLLOWING "The body does not continue the records before it."
     12 DIFFERENT_SEAL "The seal is not the one that the record must have."
+    16 BLANK_KEY "Every byte of the key is zero."
 }
 
 impl Refused {

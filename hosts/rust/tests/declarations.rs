@@ -137,7 +137,7 @@ macro_rules! named {
 fn refusals() -> BTreeMap<&'static str, String> {
     BTreeMap::from(named!(Refused::{
         UNKNOWN_INSTANCE, UNKNOWN_WIDTH, WRONG_LENGTH, COUNT_OVER_BYTES, TOTAL_OVER_LIMIT, WRONG_JOURNAL_LENGTH, BROKEN_LAYOUT,
-        NOT_FOLLOWING, DIFFERENT_SEAL,
+        NOT_FOLLOWING, DIFFERENT_SEAL, BLANK_KEY,
     }))
 }
 

@@ -74,7 +74,7 @@ fn definitions_have_the_same_sentences() {
             }
         }
     }
-    assert!(compared >= 14, "{compared} sentences");
+    assert!(compared >= 16, "{compared} sentences");
 }
 
 const PERMUTE: &str = "permutation/specs/Permute";
