@@ -1,7 +1,7 @@
 //! The journal check agrees with the independent implementation: on whole journals of 0 to 1,600 records, on journals damaged in each
-//! field, resealed or not, torn, over-long, and with two faults. Seeds are fixed.
+//! field, resealed or not, torn, over-long, with two faults, and under blank keys. Seeds are fixed.
 use reference::journal::{self as expected, BODY, LONGEST, RECORD, SEAL};
-use reference::journals::{bodies, reseal, sealed};
+use reference::journals::{bodies, nearly_blank_keys, reseal, sealed};
 use reference::random::Random;
 use wilbroged::{verify, Refused};
 
@@ -10,7 +10,8 @@ use wilbroged::{verify, Refused};
 fn compare(key: &[u8], journal: &[u8]) -> (u32, usize) {
     let answer = verify(key, journal);
     let refused = expected::verify(key, journal).err();
-    let answer_expected = refused.map_or(Ok(()), |(number, place)| Err(Refused { number, place: (number >= 10).then_some(place) }));
+    let place_of = |number, place| (10..=12).contains(&number).then_some(place);
+    let answer_expected = refused.map_or(Ok(()), |(number, place)| Err(Refused { number, place: place_of(number, place) }));
     assert_eq!(answer, answer_expected, "key {key:02X?}, {} bytes {journal:02X?}", journal.len());
     refused.unwrap_or((0, 0))
 }
@@ -150,6 +151,38 @@ fn two_faults() {
                 }
             }
         }
+    }
+}
+
+/// A blank key is refused whatever the journal is: before 9, and before the lines of every record.
+#[test]
+fn a_blank_key() {
+    let journal = sealed(&[0; 16], &bodies(&mut Random::new(50), 3));
+    for length in 0..=journal.len() {
+        assert_eq!(compare(&[0; 16], &journal[..length]), (16, 0));
+    }
+    for over in 0..=2 * RECORD {
+        assert_eq!(compare(&[0; 16], &vec![0; LONGEST + over]), (16, 0));
+    }
+    for (_, damage) in FAULTS {
+        for place in 0..3 {
+            let mut damaged = journal.clone();
+            damage(&mut damaged[RECORD * place..RECORD * (place + 1)]);
+            assert_eq!(compare(&[0; 16], &damaged), (16, 0));
+        }
+    }
+}
+
+/// One byte of the key that is not zero is enough.
+#[test]
+fn nearly_blank_keys_are_taken() {
+    let bodies = bodies(&mut Random::new(51), 3);
+    let blank = sealed(&[0; 16], &bodies);
+    for key in nearly_blank_keys() {
+        assert_eq!(compare(&key, &sealed(&key, &bodies)), (0, 0));
+        assert_eq!(compare(&key, &blank), (12, 0));
+        assert_eq!(compare(&key, &[]), (0, 0));
+        assert_eq!(compare(&key, &blank[1..]), (9, 0));
     }
 }
 

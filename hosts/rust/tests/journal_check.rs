@@ -5,10 +5,10 @@
 //! reads. So these tests try both mistakes. A buffer one byte shorter would accept `one_byte_over`, and a failed read that is taken for the
 //! end would accept the whole journal of `a_failed_read`.
 use reference::journal::{report, Body, BODY, LONGEST, RECORD};
-use reference::journals::{bodies, reseal, sealed};
+use reference::journals::{bodies, nearly_blank_keys, reseal, sealed};
 use reference::random::Random;
 use std::fs::File;
-use std::io::{ErrorKind, Read, Write};
+use std::io::{self, ErrorKind, Read, Write};
 use std::os::fd::OwnedFd;
 use std::os::unix::net::{UnixDatagram, UnixStream};
 use std::path::PathBuf;
@@ -34,16 +34,13 @@ fn printed_from(input: Stdio) -> String {
     printed
 }
 
-/// What the program prints for an input that comes through a pipe, `at_a_time` bytes at a time.
-fn printed(input: &[u8], at_a_time: usize) -> String {
+/// What the program prints for an input that comes through a pipe.
+fn printed(mut input: impl Read) -> String {
     let mut child = Command::new(program()).stdin(Stdio::piped()).stdout(Stdio::piped()).stderr(Stdio::piped()).spawn().unwrap();
     let mut pipe = child.stdin.take().unwrap();
-    for part in input.chunks(at_a_time) {
-        // the program may stop reading once it has seen enough
-        match pipe.write_all(part) {
-            Err(error) if error.kind() == ErrorKind::BrokenPipe => break,
-            written => written.unwrap(),
-        }
+    // the program may stop reading once it has seen enough
+    if let Err(error) = io::copy(&mut input, &mut pipe) {
+        assert_eq!(error.kind(), ErrorKind::BrokenPipe);
     }
     drop(pipe);
     let mut text = String::new();
@@ -56,7 +53,7 @@ fn printed(input: &[u8], at_a_time: usize) -> String {
 /// The line for an input.
 fn check(input: &[u8], line: &str) {
     assert_eq!(report(input), format!("{line}\n"), "the independent implementation");
-    assert_eq!(printed(input, usize::MAX), format!("{line}\n"), "{} bytes", input.len());
+    assert_eq!(printed(input), format!("{line}\n"), "{} bytes", input.len());
 }
 
 /// Key, then the journal of bodies, sealed in turn.
@@ -71,7 +68,7 @@ fn lawful(seed: u64, records: usize) -> Vec<u8> {
     input(KEY, &bodies(&mut Random::new(seed), records))
 }
 
-/// Document 01's three lines, and the edges around them.
+/// The three lines of document 01, two under a blank key, and the edges around them.
 #[test]
 fn sample_lines() {
     check(&[1; 16], "accepted 0 0");
@@ -79,9 +76,35 @@ fn sample_lines() {
     check(&[1; 15], "refused 5 0");
     check(&[], "refused 5 0");
     check(&[1; 1], "refused 5 0");
-    check(&[0; 16], "accepted 0 0");
+    check(&[0; 16], "refused 16 0");
+    check(&[0; 17], "refused 16 0");
+    check(&[0; 15], "refused 5 0");
     check(&[1; 16 + 39], "refused 9 0");
     check(&[1; 16 + 40], "refused 10 0");
+}
+
+/// A blank key with a journal that is whole, torn, over-long or broken.
+#[test]
+fn a_blank_key() {
+    let whole = input(&[0; 16], &bodies(&mut Random::new(48), 2));
+    check(&whole, "refused 16 0");
+    check(&whole[..whole.len() - 1], "refused 16 0");
+    check(&[&[0; 16], &lawful(40, 1_600)[16..], &[0]].concat(), "refused 16 0");
+    for offset in [12, 4, BODY] {
+        let mut broken = whole.clone();
+        broken[16 + RECORD + offset] ^= 0x80;
+        check(&broken, "refused 16 0");
+    }
+}
+
+/// One byte of the key that is not zero is enough.
+#[test]
+fn nearly_blank_keys_are_taken() {
+    let bodies = bodies(&mut Random::new(49), 2);
+    for key in nearly_blank_keys() {
+        check(&key, "accepted 0 0");
+        check(&input(&key, &bodies), "accepted 2 146");
+    }
 }
 
 #[test]
@@ -102,7 +125,8 @@ fn the_longest_journal() {
     let longest = lawful(40, 1_600);
     assert_eq!(longest.len(), 16 + LONGEST);
     check(&longest, "accepted 1600 116800");
-    check(&vec![0; 16 + LONGEST], "refused 10 0");
+    check(&vec![1; 16 + LONGEST], "refused 10 0");
+    check(&vec![0; 16 + LONGEST], "refused 16 0");
 }
 
 /// The longest journal and one byte more: a program that reads a byte less than it must would not see it.
@@ -147,7 +171,7 @@ fn one_fault() {
     changed[3].station += 1;
     check(&input(KEY, &changed), "refused 11 3");
     // another key
-    check(&[&[0; 16], &whole[16..]].concat(), "refused 12 0");
+    check(&[&[1; 16], &whole[16..]].concat(), "refused 12 0");
 }
 
 /// Two faults: the earlier record's, then the lower line, wins.
@@ -224,9 +248,11 @@ fn a_slow_pipe() {
     assert_eq!(printed_part_by_part(&longest, 1_000), "accepted 1600 116800\n");
 }
 
+/// Zeros without an end, and zeros without an end after a first byte that is not zero.
 #[test]
 fn endless_input() {
-    assert_eq!(printed_from(File::open("/dev/zero").unwrap().into()), "refused 9 0\n");
+    assert_eq!(printed_from(File::open("/dev/zero").unwrap().into()), "refused 16 0\n");
+    assert_eq!(printed((&[1u8][..]).chain(io::repeat(0))), "refused 9 0\n");
 }
 
 const READING_FAILED: &str = "journal_check: reading standard input failed\n";
@@ -251,12 +277,22 @@ fn a_failed_read() {
     // a folder can be opened, and not read
     assert_eq!(output_from(File::open("/").unwrap().into()), ("refused 5 0\n".into(), READING_FAILED.into()));
     let whole = lawful(47, 5);
-    assert_eq!(printed(&whole, usize::MAX), "accepted 5 365\n");
+    assert_eq!(printed(&whole[..]), "accepted 5 365\n");
     for length in [0, 1, 15] {
         assert_eq!(printed_after_failure(&whole[..length]), "refused 5 0\n");
     }
     for length in [16, 17, 16 + RECORD, whole.len()] {
         assert_eq!(printed_after_failure(&whole[..length]), "refused 9 0\n");
+    }
+    // zeros: a key that is not whole, and a blank key with what comes after it
+    for length in [0, 1, 15] {
+        assert_eq!(printed_after_failure(&vec![0; length]), "refused 5 0\n");
+    }
+    for length in [16, 17, 16 + RECORD, 16 + 5 * RECORD] {
+        assert_eq!(printed_after_failure(&vec![0; length]), "refused 16 0\n");
+    }
+    for key in nearly_blank_keys() {
+        assert_eq!(printed_after_failure(&key), "refused 9 0\n");
     }
 }
 

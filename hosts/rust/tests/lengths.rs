@@ -31,7 +31,7 @@ fn parts_of_a_record() {
     let mut body = [0; BODY_BYTES + 1];
     (body[7], body[12], body[13]) = (1, 1, 1); // sequence 1, lit, lamp position 1
     let sealed = |key: usize, previous: usize, body_bytes: usize, record: usize| {
-        number(seal(&vec![0; key], &vec![0; previous], &body[..body_bytes], &mut vec![0; record]))
+        number(seal(&vec![1; key], &vec![0; previous], &body[..body_bytes], &mut vec![0; record]))
     };
     assert_eq!(sealed(KEY_BYTES, SEAL_BYTES, BODY_BYTES, RECORD_BYTES), 0);
     for other in [-1, 1] {
@@ -40,8 +40,12 @@ fn parts_of_a_record() {
         assert_eq!(sealed(KEY_BYTES, length(SEAL_BYTES), BODY_BYTES, RECORD_BYTES), Refused::WRONG_LENGTH);
         assert_eq!(sealed(KEY_BYTES, SEAL_BYTES, length(BODY_BYTES), RECORD_BYTES), Refused::WRONG_LENGTH);
         assert_eq!(sealed(KEY_BYTES, SEAL_BYTES, BODY_BYTES, length(RECORD_BYTES)), Refused::WRONG_LENGTH);
+        assert_eq!(number(verify(&vec![1; length(KEY_BYTES)], &[])), Refused::WRONG_LENGTH);
+        // fifteen and seventeen zeros are no blank key
         assert_eq!(number(verify(&vec![0; length(KEY_BYTES)], &[])), Refused::WRONG_LENGTH);
     }
+    assert_eq!(number(verify(&[1; KEY_BYTES], &[])), 0);
+    assert_eq!(number(verify(&[0; KEY_BYTES], &[])), Refused::BLANK_KEY);
 }
 
 /// A journal of zeros is refused at its first record, once its length has been taken.
@@ -49,7 +53,7 @@ fn parts_of_a_record() {
 fn journals() {
     assert_eq!(LONGEST_JOURNAL_BYTES, LONGEST);
     let zeros = vec![0; LONGEST_JOURNAL_BYTES + RECORD_BYTES];
-    let verified = |length: usize| number(verify(&[0; KEY_BYTES], &zeros[..length]));
+    let verified = |length: usize| number(verify(&[1; KEY_BYTES], &zeros[..length]));
     for taken in [RECORD_BYTES, LONGEST_JOURNAL_BYTES] {
         assert_eq!(verified(taken), Refused::BROKEN_LAYOUT);
         assert_eq!(verified(taken - 1), Refused::WRONG_JOURNAL_LENGTH);

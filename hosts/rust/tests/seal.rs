@@ -1,8 +1,8 @@
-//! Sealing agrees with the independent implementation; refused by 5 or 10, in this order, the record buffer is as it was.
+//! Sealing agrees with the independent implementation; refused by 5, 16 or 10, in this order, the record buffer is as it was.
 use reference::journal::{self as expected, Body};
-use reference::journals::bodies;
+use reference::journals::{bodies, nearly_blank_keys};
 use reference::random::Random;
-use wilbroged::{seal, Refused};
+use wilbroged::{seal, verify, Refused};
 
 /// Compares both, from a buffer that holds something, and answers the refusal's number.
 fn compare(key: &[u8], previous: &[u8], body: &[u8], length: usize) -> Result<(), u32> {
@@ -119,11 +119,41 @@ fn kind_and_milliseconds() {
     }
 }
 
-/// 5 comes before 10.
+/// Sixteen zeros are refused by 16, and another number of zeros by 5.
+#[test]
+fn zeros_for_a_key() {
+    for body in bodies(&mut Random::new(22), 3) {
+        for zeros in 0..=40 {
+            let answer = compare(&[0; 40][..zeros], &[4; 17], &body.bytes(), 40);
+            assert_eq!(answer, Err(if zeros == 16 { 16 } else { 5 }), "{zeros} zeros");
+        }
+    }
+}
+
+/// One byte of the key that is not zero is enough, and the record is then accepted.
+#[test]
+fn nearly_blank_keys_are_taken() {
+    let body = bodies(&mut Random::new(23), 1)[0].bytes();
+    for key in nearly_blank_keys() {
+        assert_eq!(compare(&key, &[0; 17], &body, 40), Ok(()));
+        let mut record = [0; 40];
+        assert_eq!(seal(&key, &[0; 17], &body, &mut record), Ok(()));
+        assert_eq!(verify(&key, &record), Ok(()));
+    }
+}
+
+/// 5, of each of the four lengths, comes before 16 and before 10, and 16 before 10.
 #[test]
 fn the_first_line_that_holds() {
-    assert_eq!(compare(&[0; 15], &[0; 17], &[0; 23], 40), Err(5));
-    assert_eq!(compare(&[0; 16], &[0; 17], &[0; 22], 40), Err(5));
-    assert_eq!(compare(&[0; 16], &[0; 17], &[0; 23], 39), Err(5));
-    assert_eq!(compare(&[0; 16], &[0; 17], &[0; 23], 40), Err(10));
+    for key in [0, 1] {
+        for other in [-1, 1] {
+            let length = |bytes: usize| bytes.checked_add_signed(other).unwrap();
+            assert_eq!(compare(&vec![key; length(16)], &[0; 17], &[0; 23], 40), Err(5));
+            assert_eq!(compare(&[key; 16], &vec![0; length(17)], &[0; 23], 40), Err(5));
+            assert_eq!(compare(&[key; 16], &[0; 17], &vec![0; length(23)], 40), Err(5));
+            assert_eq!(compare(&[key; 16], &[0; 17], &[0; 23], length(40)), Err(5));
+        }
+    }
+    assert_eq!(compare(&[0; 16], &[0; 17], &[0; 23], 40), Err(16));
+    assert_eq!(compare(&[1; 16], &[0; 17], &[0; 23], 40), Err(10));
 }
