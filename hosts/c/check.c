@@ -179,6 +179,9 @@ static void digest_refusals(void) {
 #define RECORDS 5
 #define JOURNAL (RECORDS * RECORD)
 
+/* The previous seal of a first record; a blank key, and one byte more. */
+static const uint8_t zeros[SEAL] = {0};
+
 /* Whether the sample with one byte changed is refused by a number, at a record. */
 static int damaged(const uint8_t *sample, size_t record, size_t byte, uint32_t number) {
     uint8_t journal[JOURNAL];
@@ -189,7 +192,6 @@ static int damaged(const uint8_t *sample, size_t record, size_t byte, uint32_t n
 
 /* Whether sealing a body of the sample again, with the seal before it, gives the record's 40 bytes. */
 static int sealed_again(const uint8_t *sample, size_t index) {
-    static const uint8_t zeros[SEAL] = {0};
     const uint8_t *whole = sample + KEY + RECORD * index;
     uint8_t record[RECORD + 1];
     memset(record, BEFORE, sizeof record);
@@ -197,13 +199,26 @@ static int sealed_again(const uint8_t *sample, size_t index) {
         && memcmp(record, whole, RECORD) == 0 && record[RECORD] == BEFORE;
 }
 
-/* The refusal's number, or 99 where a byte of the record was written. */
-static uint32_t seal_refusal(const uint8_t *sample, size_t key_len, size_t previous_len, size_t body_len, size_t record_len) {
+/* Sealing the sample's second body under a key: the refusal's number, or 99 where a byte of the record was written. */
+static uint32_t seal_refusal(const uint8_t *sample, const uint8_t *key, size_t key_len, size_t previous_len, size_t body_len,
+                             size_t record_len) {
     uint8_t record[RECORD + 1];
     uint32_t number;
     memset(record, BEFORE, sizeof record);
-    number = journal_seal(sample, key_len, sample + KEY + BODY, previous_len, sample + KEY + RECORD, body_len, record, record_len);
+    number = journal_seal(key, key_len, sample + KEY + BODY, previous_len, sample + KEY + RECORD, body_len, record, record_len);
     return all(record, sizeof record, BEFORE) ? number : 99;
+}
+
+/* Each of the four lengths of sealing, a byte shorter and a byte longer. */
+static void seal_lengths(const uint8_t *sample, const uint8_t *key) {
+    CHECK(seal_refusal(sample, key, KEY - 1, SEAL, BODY, RECORD) == WILBROGED_WRONG_LENGTH);
+    CHECK(seal_refusal(sample, key, KEY + 1, SEAL, BODY, RECORD) == WILBROGED_WRONG_LENGTH);
+    CHECK(seal_refusal(sample, key, KEY, SEAL - 1, BODY, RECORD) == WILBROGED_WRONG_LENGTH);
+    CHECK(seal_refusal(sample, key, KEY, SEAL + 1, BODY, RECORD) == WILBROGED_WRONG_LENGTH);
+    CHECK(seal_refusal(sample, key, KEY, SEAL, BODY - 1, RECORD) == WILBROGED_WRONG_LENGTH);
+    CHECK(seal_refusal(sample, key, KEY, SEAL, BODY + 1, RECORD) == WILBROGED_WRONG_LENGTH);
+    CHECK(seal_refusal(sample, key, KEY, SEAL, BODY, RECORD - 1) == WILBROGED_WRONG_LENGTH);
+    CHECK(seal_refusal(sample, key, KEY, SEAL, BODY, RECORD + 1) == WILBROGED_WRONG_LENGTH);
 }
 
 static void journals(const uint8_t *sample) {
@@ -238,19 +253,51 @@ static void journals(const uint8_t *sample) {
         CHECK(damaged(sample, i, RECORD - 1, WILBROGED_DIFFERENT_SEAL));
     }
 
-    CHECK(seal_refusal(sample, KEY - 1, SEAL, BODY, RECORD) == WILBROGED_WRONG_LENGTH);
-    CHECK(seal_refusal(sample, KEY + 1, SEAL, BODY, RECORD) == WILBROGED_WRONG_LENGTH);
-    CHECK(seal_refusal(sample, KEY, SEAL - 1, BODY, RECORD) == WILBROGED_WRONG_LENGTH);
-    CHECK(seal_refusal(sample, KEY, SEAL + 1, BODY, RECORD) == WILBROGED_WRONG_LENGTH);
-    CHECK(seal_refusal(sample, KEY, SEAL, BODY - 1, RECORD) == WILBROGED_WRONG_LENGTH);
-    CHECK(seal_refusal(sample, KEY, SEAL, BODY + 1, RECORD) == WILBROGED_WRONG_LENGTH);
-    CHECK(seal_refusal(sample, KEY, SEAL, BODY, RECORD - 1) == WILBROGED_WRONG_LENGTH);
-    CHECK(seal_refusal(sample, KEY, SEAL, BODY, RECORD + 1) == WILBROGED_WRONG_LENGTH);
+    seal_lengths(sample, key);
     memcpy(body, journal, BODY);
     body[13] = 7;
     memset(record, BEFORE, RECORD);
     CHECK(journal_seal(key, KEY, journal + BODY, SEAL, body, BODY, record, RECORD) == WILBROGED_BROKEN_LAYOUT);
+    /* a blank key comes before the layout */
+    CHECK(journal_seal(zeros, KEY, journal + BODY, SEAL, body, BODY, record, RECORD) == WILBROGED_BLANK_KEY);
     CHECK(all(record, RECORD, BEFORE));
+}
+
+/* Whether a journal is refused under a blank key, at place 0. */
+static int blank_refused(const uint8_t *journal, size_t length) {
+    return journal_verify(zeros, KEY, journal, length) == WILBROGED_BLANK_KEY && journal_refused_at(zeros, KEY, journal, length) == 0;
+}
+
+/* Whether a key with one byte that is not zero seals a first body, and the record is accepted under it. */
+static int one_byte_is_enough(const uint8_t *body, size_t at) {
+    uint8_t key[KEY] = {0}, record[RECORD];
+    key[at] = 1;
+    return journal_seal(key, KEY, zeros, SEAL, body, BODY, record, RECORD) == WILBROGED_ACCEPTED
+        && memcmp(record, body, BODY) == 0 && journal_verify(key, KEY, record, RECORD) == WILBROGED_ACCEPTED;
+}
+
+static void blank_keys(const uint8_t *sample) {
+    const uint8_t *journal = sample + KEY;
+    size_t i;
+
+    CHECK(seal_refusal(sample, zeros, KEY, SEAL, BODY, RECORD) == WILBROGED_BLANK_KEY);
+    seal_lengths(sample, zeros);
+
+    CHECK(blank_refused(NULL, 0));
+    /* under another key: 12, 9 (torn), 11 (a first record with sequence 2), 10, and 9 (too long) twice */
+    CHECK(blank_refused(journal, JOURNAL));
+    CHECK(blank_refused(journal, JOURNAL - 1));
+    CHECK(blank_refused(journal + RECORD, JOURNAL - RECORD));
+    CHECK(blank_refused(long_message, LONGEST));
+    CHECK(blank_refused(long_message, LONGEST + 1));
+    CHECK(blank_refused(long_message, LONGEST + RECORD));
+    CHECK(journal_verify(zeros, KEY - 1, journal, JOURNAL) == WILBROGED_WRONG_LENGTH);
+    CHECK(journal_verify(zeros, KEY + 1, journal, JOURNAL) == WILBROGED_WRONG_LENGTH);
+    CHECK(journal_refused_at(zeros, KEY - 1, journal, JOURNAL) == 0);
+
+    for (i = 0; i < KEY; i++) {
+        CHECK(one_byte_is_enough(journal, i));
+    }
 }
 
 /* Reads the sample; 0 where it does not have the length that is expected. */
@@ -276,6 +323,7 @@ int main(int argc, char **argv) {
     CHECK(readable);
     if (readable) {
         journals(sample);
+        blank_keys(sample);
     }
     printf("%u passed, %u failed\n", passed, failed);
     return failed == 0 && passed > 0 ? 0 : 1;
