@@ -18,9 +18,9 @@ extern "C" {
 }
 
 /// Writes the body and its seal to `record`. The previous seal is the one of the record before, and zeros for the first; it and the body's
-/// station, sequence and time are taken on trust, and [`verify`] tests them. Refused, in this order, by `WRONG_LENGTH`, where the lengths are
-/// not [`KEY_BYTES`](crate::KEY_BYTES), [`SEAL_BYTES`](crate::SEAL_BYTES), [`BODY_BYTES`](crate::BODY_BYTES) and
-/// [`RECORD_BYTES`](crate::RECORD_BYTES), `BLANK_KEY` and `BROKEN_LAYOUT`, each with no place.
+/// station, sequence and time are taken on trust, and [`verify`] tests them. Refused, in this order, by `WRONG_LENGTH` (the lengths are not
+/// [`KEY_BYTES`](crate::KEY_BYTES), [`SEAL_BYTES`](crate::SEAL_BYTES), [`BODY_BYTES`](crate::BODY_BYTES) and
+/// [`RECORD_BYTES`](crate::RECORD_BYTES)), `BLANK_KEY` and `BROKEN_LAYOUT`, each with no place.
 ///
 /// The body, numbers with the high byte first:
 ///
@@ -73,7 +73,7 @@ pub fn seal(key: &[u8], previous: &[u8], body: &[u8], record: &mut [u8]) -> Resu
 }
 
 /// Checks a journal: no error where the key has a byte that is not zero, and every record keeps the layout, follows and has its seal.
-/// Refused, in this order, by `WRONG_LENGTH`, of the key, `BLANK_KEY` and `WRONG_JOURNAL_LENGTH`, each with no place; then record by record,
+/// Refused, in this order, by `WRONG_LENGTH` (of the key), `BLANK_KEY` and `WRONG_JOURNAL_LENGTH`, each with no place; then record by record,
 /// with its index, by `BROKEN_LAYOUT`, `NOT_FOLLOWING` and `DIFFERENT_SEAL`.
 ///
 /// A journal that was cut after a whole record is accepted: compare `journal.len() / RECORD_BYTES` with the number of records that there
@@ -94,7 +94,7 @@ pub fn seal(key: &[u8], previous: &[u8], body: &[u8], record: &mut [u8]) -> Resu
 ///
 /// assert_eq!(verify(&key, &journal[1..]), Err(Refused { number: Refused::WRONG_JOURNAL_LENGTH, place: None }));
 ///
-/// // Under a blank key no journal is accepted, an empty one neither.
+/// // Under a blank key no journal is accepted, not even an empty one.
 /// assert_eq!(verify(&[0; 16], &[]), Err(Refused { number: Refused::BLANK_KEY, place: None }));
 /// # Ok::<(), Refused>(())
 /// ```
