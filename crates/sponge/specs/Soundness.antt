@@ -27,6 +27,7 @@ absorbingPhase = 0
 abbrev pub closedPhase : ℕ
 closedPhase = 1
 
+-- every byte is zero; so it is where there is none
 unfoldable pub allZero : List ℕ → Bool
 allZero [] = true
 allZero (x ∷ xs) = eqb x 0 && allZero xs
