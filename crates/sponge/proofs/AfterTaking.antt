@@ -1,6 +1,7 @@
 -- What is held after bits are taken, and after a finish: b bits, the total, the extra blocks, and the runs of P. For any regular instance.
 use mathlib.Core.Bool.{Bool, true, false, cond}
 use mathlib.Core.List.{List, [], _∷_, _++_}
+use mathlib.Core.Logic.{_↔_}
 use mathlib.Core.Path.{_≡_, refl, sym, ap, _∙_}
 use Prim.Native.Nat.{ℕ, zero, suc, _+_, _*_, _-_, _/_, _%_, _<_}
 use native.Mathlib.Nat.{mod-lt, div-add-mod', suc-ne-zero, add-zero}
@@ -36,6 +37,11 @@ module _ (I : Instance) (R : Regular I) where
   pub bit-index-lt : (t : ℕ) → bitIndex I t < I .b
   unfolding bitIndex
   bit-index-lt t = omega (arith, R .rate-fits, mod-lt t (R .some-rate))
+
+  -- it is that of a multiple of r, the first of a block, exactly where the total is a multiple of r too
+  pub first-of-block : (t u : ℕ) → u % I .r ≡ 0 → (bitIndex I t ≡ bitIndex I u) ↔ (t % I .r ≡ 0)
+  unfolding bitIndex
+  first-of-block t u first = (λ e. omega (arith, first), λ z. omega (arith, first))
 
   -- ---- b bits stay b bits
 

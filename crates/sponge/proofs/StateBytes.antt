@@ -8,7 +8,7 @@ use native.Mathlib.Nat.{div-add-mod', add-zero, add-assoc, mod-add-mod, mod-mod,
 use native.Mathlib.Decide.{decLt, ℕ-discrete}
 use native.Mathlib.Omega.{arith}
 use borrow.Author.Tests.{eq-eqb, ne-eqb}
-use lib.Bits.{bitXor, xor-lt}
+use lib.Bits.{bitAnd, bitXor, and-mask, xor-lt}
 use lib.Dec.{eqb}
 use lib.ListN.{length, getD, set, take, drop, replicate, length-drop, length-take, length-set, take-append-drop, List·getD-eq-default, length-replicate}
 use lib.Pow.{pow-pos, pow-mono, pow-lt, pow-add}
@@ -65,6 +65,16 @@ whole-front = of-each (λ I. 8 * ((I .b - I .r) / 8) ≡ I .b - I .r) refl refl 
 pub outputs-small : (i : ℕ) → instanceOf i .n / instanceOf i .r ≤ 17
 unfolding U D S
 outputs-small = of-each (λ I. I .n / I .r ≤ 17) (omega arith) (omega arith) (omega arith)
+
+-- r is a power of two, so that a number under the mask r - 1 is its remainder by r
+pub under-mask : (i n : ℕ) → bitAnd n (instanceOf i .r - 1) ≡ n % instanceOf i .r
+unfolding U D S
+under-mask i n = of-each (λ I. bitAnd n (I .r - 1) ≡ n % I .r) (and-mask n 3) (and-mask n 4) (and-mask n 5) i
+
+-- and a multiple of 32 is a multiple of r
+pub whole-by-32 : (i n : ℕ) → n % 32 ≡ 0 → n % instanceOf i .r ≡ 0
+unfolding U D S
+whole-by-32 i n h = of-each (λ I. n % I .r ≡ 0) (omega (arith, h)) (omega (arith, h)) (omega (arith, h)) i
 
 -- the padded length, by the total's remainder
 pub padded-remainder : (t r z : ℕ) → (t % r + 1 + z) % r ≡ (t + 1 + z) % r

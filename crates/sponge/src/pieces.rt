@@ -27,7 +27,7 @@ pub fn add_bit(state: State, bit: u8) -> State
 {
     let at = rate::bit_index(state.instance, state.total);
     let mut next = state;
-    next.bits[at / 8] = next.bits[at / 8] ^ (bit << (7 - at % 8));
+    next.bits[at >> 3] = next.bits[at >> 3] ^ (bit << (7 - (at & 7)));
     next
 }
 
@@ -52,7 +52,8 @@ fn take_bit(state: State, width: u32, bit: u8) -> State
 {
     let mut next = add_bit(state, bit);
     next.total = next.total + 1;
-    if next.total as usize % rate::rate(state.instance) == 0 {
+    // P runs where the next bit's index is the first of a block again.
+    if rate::bit_index(state.instance, next.total) == rate::bit_index(state.instance, 0) {
         return run_p(next, width);
     }
     next

@@ -55,5 +55,6 @@ pub fn outputs(instance: u32) -> usize
 pub fn bit_index(instance: u32, total: u32) -> usize
     ensures { λ r. ⌜ r ≡ bitIndex (instanceOf instance) total ⌝ }
 {
-    8 * last_block(instance) + total as usize % rate(instance)
+    // r is a power of two, so a number under the mask r - 1 is its remainder by r.
+    8 * last_block(instance) + (total as usize & (rate(instance) - 1))
 }

@@ -1,12 +1,13 @@
--- `add_bit` meets its contract: a bit is added in its byte, and the other bits stay.
+-- `add_bit` meets its contract: a bit is added in its byte, and the other bits stay. An index under the mask 7 is its remainder by 8.
 use mathlib.Core.Path.{_≡_, refl, ap, _∙_}
-use Prim.Native.Nat.{ℕ, _/_, _%_, _<_}
-use native.Mathlib.Nat.{mod-eq-of-lt}
+use Prim.Native.Nat.{ℕ, _*_, _-_, _/_, _%_, _^_, _<_}
+use native.Mathlib.Nat.{mod-eq-of-lt, le-trans}
 use native.Mathlib.Omega.{arith}
 use mir.Val.{Fits}
 use mir.Syntax.{w8}
 use borrow.Author.Needs.{needs}
-use lib.Bits.{bitXor}
+use lib.Bits.{bitXor, and-mask, and-le-r}
+use lib.Dec.{lit≤}
 use lib.ListN.{length, getD, set}
 use Rattle.quark.specs.Instance.{instanceOf}
 use Rattle.quark.proofs.Instance.{in-bytes, regular}
@@ -28,7 +29,7 @@ element-copy-out-next : tie.Need-element-copy-out-next
 element-copy-out-next c = omega (arith, within c, in-bytes (c .before .args .state .instance) .at-most-256)
 
 sub-next : tie.Need-sub-next
-sub-next c = search needs
+sub-next c = le-trans (and-le-r (c .before .bit-index .result) _) (lit≤ tt)
 
 cast-next : tie.Need-cast-next
 cast-next c = search needs
@@ -50,7 +51,8 @@ returns c =
     let fit : (j : ℕ) → Fits w8 (getD (s .bits) j 0) = λ j. search needs in
     let ready = start .pre in
     with-sponge s (added s x) refl
-    (ap (λ (v : ℕ). set (s .bits) (at / 8) (bitXor (getD (s .bits) (at / 8) 0) v)) (mod-eq-of-lt (weight-lt x (at % 8) (ready .1)))
+    (ap (λ (k : ℕ). set (s .bits) (at / 8) (bitXor (getD (s .bits) (at / 8) 0) (x * 2 ^ (7 - k) % 256))) (and-mask at 3)
+    ∙ ap (λ (v : ℕ). set (s .bits) (at / 8) (bitXor (getD (s .bits) (at / 8) 0) v)) (mod-eq-of-lt (weight-lt x (at % 8) (ready .1)))
     ∙ ap (λ (k : ℕ). flipped (s .bits) k x) (c .before .bit-index .ensures)
     ∙ bytes-added (s .instance) (s .bits) n (λ j. fit j .fits) (ready .0) (bitIndex (instanceOf (s .instance)) (s .total)) x
     (bit-index-lt (instanceOf (s .instance)) (regular (s .instance)) (s .total)) (ready .1))

@@ -1,16 +1,18 @@
 -- `take_bit` meets its contract: what `add_bit`, the new total and `run_p` make of the state is the definition's next state.
-use mathlib.Core.Path.{_≡_, sym, ap, ap₂, _∙_}
-use Prim.Native.Nat.{ℕ, _+_, _%_}
+use mathlib.Core.Logic.{_↔_}
+use mathlib.Core.Path.{_≡_, refl, sym, ap, _∙_}
+use Prim.Native.Nat.{_+_, _%_}
 use native.Mathlib.Nat.{div-le-self}
 use native.Mathlib.Omega.{arith}
-use borrow.Author.Needs.{needs}
 use Rattle.quark.specs.Instance.{instanceOf}
 use Rattle.quark.proofs.Instance.{regular}
 use Rattle.sponge.specs.declared.State.{State}
-use Rattle.sponge.specs.Taking.{addBit}
+use Rattle.sponge.specs.Taking.{bitIndex, addBit}
 use Rattle.sponge.specs.Soundness.{contentOf, stateWith}
 use Rattle.sponge.specs.leaf.Ready.{withSponge}
+use Rattle.sponge.proofs.AfterTaking.{first-of-block}
 use Rattle.sponge.proofs.Contents.{changed, with-changed, ready-content, counted, wide-next, take-bit-runs, take-bit-waits}
+use Rattle.sponge.proofs.StateBytes.{whole-by-32}
 use Rattle.sponge.proofs.pieces.take_bit.Statement.{statement}
 use Rattle.sponge.proofs.pieces.take_bit.Tie as tie
 
@@ -26,12 +28,6 @@ add-bit-requires c κs = (c .pre .0 .zero-past, c .pre .1)
 add-next : tie.Need-add-next
 unfolding withSponge stateWith contentOf
 add-next c = omega (arith, ap (λ (t : State). t .total) (c .before .add-bit .ensures), c .before .before .pre .2)
-
-cast-if1 : tie.Need-cast-if1
-cast-if1 c = search needs
-
-rem-if1 : tie.Need-rem-if1
-rem-if1 c = omega (arith, regular (c .before .before .before .before .args .state .instance) .some-rate)
 
 run-p-requires : tie.Need-run-p-requires
 unfolding withSponge stateWith addBit contentOf
@@ -49,22 +45,28 @@ run-p-requires c κs =
       ),
     )
 
--- the total after the bit, modulo r, as the code finds it
-remainder : (c : tie.After-rate) → let s = c .before .before .before .before .args .state in
-    (c .before .before .before .add-bit .result .total + 1) % c .rate .result ≡ (s .total + 1) % instanceOf (s .instance) .r
+-- the code's test: the next index is that of the total 0, which is a multiple of 32 and so of r, exactly where the total after the bit is a
+-- multiple of r
+whole : (c : tie.After-bit-index2) → let s = c .before .before .before .before .args .state in
+    (c .before .bit-index .result ≡ c .bit-index2 .result) ↔ ((s .total + 1) % instanceOf (s .instance) .r ≡ 0)
 unfolding withSponge stateWith contentOf
-remainder c = ap₂ (λ (n r : ℕ). (n + 1) % r) (ap (λ (t : State). t .total) (c .before .before .before .add-bit .ensures)) (c .rate .ensures)
+whole c =
+    let s = c .before .before .before .before .args .state in
+    let I = instanceOf (s .instance) in
+    let next = c .before .bit-index .ensures ∙ ap (λ (t : State). bitIndex I (t .total + 1)) (c .before .before .before .add-bit .ensures) in
+    let first = first-of-block I (regular (s .instance)) (s .total + 1) _ (whole-by-32 (s .instance) _ refl) in
+    (λ e. first .0 (sym next ∙ e ∙ c .bit-index2 .ensures), λ z. next ∙ first .1 z ∙ sym (c .bit-index2 .ensures))
 
 returns : tie.Need-returns
 returns c =
     let a = c .before .before .before .before .before .before .args in
     c .run-p .ensures
-    ∙ take-bit-runs (a .state) (a .bit) _ (next-state (c .before .before .before .before .before)) (sym (remainder (c .before .before)) ∙ c .before .if1 .taken)
+    ∙ take-bit-runs (a .state) (a .bit) _ (next-state (c .before .before .before .before .before)) (whole (c .before .before) .0 (c .before .if1 .taken))
 
 returns-2 : tie.Need-returns-2
 returns-2 c =
     let a = c .before .before .before .before .before .args in
-    next-state (c .before .before .before .before) ∙ take-bit-waits (a .state) (a .bit) (λ z. c .if1 .left (remainder (c .before) ∙ z))
+    next-state (c .before .before .before .before) ∙ take-bit-waits (a .state) (a .bit) (λ z. c .if1 .left (whole (c .before) .1 z))
 
 pub take-bit-spec : {M : Type 1} → statement M
 take-bit-spec =
@@ -72,9 +74,8 @@ take-bit-spec =
     (tie.spec
     add-bit-requires
     add-next
-    cast-if1
     (λ c κs. tt)
-    rem-if1
+    (λ c κs. tt)
     run-p-requires
     returns
     returns-2)

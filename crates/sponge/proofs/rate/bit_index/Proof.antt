@@ -1,38 +1,46 @@
--- `bit_index` meets its contract: it is below b, so nothing wraps.
-use mathlib.Core.Path.{ap}
-use Prim.Native.Nat.{ℕ, _%_, _<_}
-use native.Mathlib.Nat.{mod-lt}
+-- `bit_index` meets its contract: the total under the mask r - 1 is its remainder by r. Under a mask a number does not grow, so nothing wraps.
+use mathlib.Core.Path.{_≡_, ap, _∙_}
+use Prim.Native.Nat.{ℕ, _-_, _%_}
+use native.Mathlib.Nat.{lt-of-le-of-lt, add-le-add}
 use native.Mathlib.Omega.{arith}
+use mir.Val.{Fits}
+use mir.Syntax.{w32}
+use borrow.Author.Needs.{needs}
+use lib.Bits.{bitAnd, and-le-l}
+use Rattle.quark.specs.Instance.{instanceOf}
 use Rattle.quark.proofs.Instance.{in-bytes, regular}
 use Rattle.sponge.specs.Taking.{bitIndex}
-use Rattle.sponge.proofs.StateBytes.{whole-front}
+use Rattle.sponge.proofs.StateBytes.{under-mask, whole-front}
 use Rattle.sponge.proofs.rate.bit_index.Statement.{statement}
 use Rattle.sponge.proofs.rate.bit_index.Tie as tie
+
+-- the total under the mask, as the code finds it
+remainder : (c : tie.After-rate) → let a = c .before .before .args in
+    bitAnd (a .total) (c .rate .result - 1) ≡ a .total % instanceOf (a .instance) .r
+remainder c =
+    let a = c .before .before .args in
+    ap (λ (r : ℕ). bitAnd (a .total) (r - 1)) (c .rate .ensures) ∙ under-mask (a .instance) (a .total)
 
 mul-result : tie.Need-mul-result
 mul-result c = omega (arith, c .last-block .ensures, in-bytes (c .before .args .instance) .at-most-256)
 
-rem-result : tie.Need-rem-result
-rem-result c = omega (arith, c .rate .ensures, regular (c .before .before .args .instance) .some-rate)
+sub-result : tie.Need-sub-result
+sub-result c = omega (arith, c .rate .ensures, regular (c .before .before .args .instance) .some-rate)
 
 add-result : tie.Need-add-result
 add-result c =
-    let i = c .before .before .args .instance in
-    let some : 0 < c .rate .result = omega (arith, c .rate .ensures, regular i .some-rate) in
-    omega (
-      arith,
-      c .before .last-block .ensures,
-      c .rate .ensures,
-      regular i .rate-fits,
-      in-bytes i .at-most-256,
-      mod-lt (c .before .before .args .total) some,
-    )
+    let a = c .before .before .args in
+    let total : Fits w32 (a .total) = search needs in
+    record {
+      fits =
+          lt-of-le-of-lt
+          (add-le-add {b = 256} (omega (arith, c .before .last-block .ensures, in-bytes (a .instance) .at-most-256)) (and-le-l (a .total) _))
+          (omega (arith, total .fits));
+    }
 
 returns : tie.Need-returns
 unfolding bitIndex
-returns c =
-    let a = c .before .before .args in
-    omega (arith, whole-front (a .instance), c .before .last-block .ensures, ap (λ (r : ℕ). a .total % r) (c .rate .ensures))
+returns c = omega (arith, whole-front (c .before .before .args .instance), c .before .last-block .ensures, remainder c)
 
 pub bit-index-spec : {M : Type 1} → statement M
-bit-index-spec = tie.close (tie.spec (λ c κs. tt) mul-result (λ c κs. tt) rem-result add-result returns)
+bit-index-spec = tie.close (tie.spec (λ c κs. tt) mul-result (λ c κs. tt) sub-result add-result returns)
