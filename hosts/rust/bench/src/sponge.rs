@@ -27,6 +27,15 @@ fn rate_of(instance: u32) -> usize {
     }
 }
 
+/// (b - r)/8.
+fn last_block_of(instance: u32) -> usize {
+    match instance {
+        1 => 16,
+        2 => 20,
+        _ => 28,
+    }
+}
+
 /// n/r.
 fn outputs_of(instance: u32) -> usize {
     match instance {
@@ -46,10 +55,14 @@ fn fresh(instance: u32) -> State {
     State { instance, total: 0, runs: 0, bits }
 }
 
+/// Where the next bit goes.
+fn bit_index(instance: u32, total: u32) -> usize {
+    8 * last_block_of(instance) + (total as usize & (rate_of(instance) - 1))
+}
+
 fn add_bit(mut state: State, bit: u8) -> State {
-    let rate = rate_of(state.instance);
-    let at = 8 * size_of(state.instance) - rate + state.total as usize % rate;
-    state.bits[at / 8] ^= bit << (7 - at % 8);
+    let at = bit_index(state.instance, state.total);
+    state.bits[at >> 3] ^= bit << (7 - (at & 7));
     state
 }
 
@@ -63,16 +76,16 @@ fn run_p(mut state: State, width: u32) -> State {
 fn take_bit(state: State, width: u32, bit: u8) -> State {
     let mut next = add_bit(state, bit);
     next.total += 1;
-    if next.total as usize % rate_of(state.instance) == 0 {
+    if bit_index(state.instance, next.total) == bit_index(state.instance, 0) {
         return run_p(next, width);
     }
     next
 }
 
 fn give(state: State, digest: &mut [u8], at: usize) {
-    let size = size_of(state.instance);
+    let from = last_block_of(state.instance);
     let step = rate_of(state.instance) / 8;
-    digest[at..at + step].copy_from_slice(&state.bits[size - step..size]);
+    digest[at..at + step].copy_from_slice(&state.bits[from..from + step]);
 }
 
 /// The digest of the first `count` bits of a message, and how often P ran.
