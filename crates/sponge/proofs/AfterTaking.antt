@@ -32,16 +32,16 @@ wide-added I at x c w =
     let v = (bit (c .bits) at + x) % 2 in
     (length-set (c .bits) at v ∙ w .0, bits-set at v (parity-lt (bit (c .bits) at + x)) (w .1))
 
+-- the next bit's index is the one at a total that is a multiple of r, the first of a block, exactly where its own total is a multiple of r
+pub first-of-block : (I : Instance) (t u : ℕ) → u % I .r ≡ 0 → (bitIndex I t ≡ bitIndex I u) ↔ (t % I .r ≡ 0)
+unfolding bitIndex
+first-of-block I t u first = (λ e. omega (arith, first), λ z. omega (arith, first))
+
 module _ (I : Instance) (R : Regular I) where
   -- the next bit's index is within the state
   pub bit-index-lt : (t : ℕ) → bitIndex I t < I .b
   unfolding bitIndex
   bit-index-lt t = omega (arith, R .rate-fits, mod-lt t (R .some-rate))
-
-  -- it is that of a multiple of r, the first of a block, exactly where the total is a multiple of r too
-  pub first-of-block : (t u : ℕ) → u % I .r ≡ 0 → (bitIndex I t ≡ bitIndex I u) ↔ (t % I .r ≡ 0)
-  unfolding bitIndex
-  first-of-block t u first = (λ e. omega (arith, first), λ z. omega (arith, first))
 
   -- ---- b bits stay b bits
 

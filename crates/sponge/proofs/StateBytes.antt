@@ -66,15 +66,15 @@ pub outputs-small : (i : ℕ) → instanceOf i .n / instanceOf i .r ≤ 17
 unfolding U D S
 outputs-small = of-each (λ I. I .n / I .r ≤ 17) (omega arith) (omega arith) (omega arith)
 
--- r is a power of two, so that a number under the mask r - 1 is its remainder by r
-pub under-mask : (i n : ℕ) → bitAnd n (instanceOf i .r - 1) ≡ n % instanceOf i .r
+-- r is a power of two, so a number under the mask r - 1 is its remainder by r
+pub mask-remainder : (i n : ℕ) → bitAnd n (instanceOf i .r - 1) ≡ n % instanceOf i .r
 unfolding U D S
-under-mask i n = of-each (λ I. bitAnd n (I .r - 1) ≡ n % I .r) (and-mask n 3) (and-mask n 4) (and-mask n 5) i
+mask-remainder i n = of-each (λ I. bitAnd n (I .r - 1) ≡ n % I .r) (and-mask n 3) (and-mask n 4) (and-mask n 5) i
 
 -- and a multiple of 32 is a multiple of r
-pub whole-by-32 : (i n : ℕ) → n % 32 ≡ 0 → n % instanceOf i .r ≡ 0
+pub multiple-of-32 : (i n : ℕ) → n % 32 ≡ 0 → n % instanceOf i .r ≡ 0
 unfolding U D S
-whole-by-32 i n h = of-each (λ I. n % I .r ≡ 0) (omega (arith, h)) (omega (arith, h)) (omega (arith, h)) i
+multiple-of-32 i n h = of-each (λ I. n % I .r ≡ 0) (omega (arith, h)) (omega (arith, h)) (omega (arith, h)) i
 
 -- the padded length, by the total's remainder
 pub padded-remainder : (t r z : ℕ) → (t % r + 1 + z) % r ≡ (t + 1 + z) % r

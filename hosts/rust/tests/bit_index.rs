@@ -11,7 +11,7 @@ const P: [&str; 2] = ["state_bytes", "permutation::permute"];
 fn body(function: &str, source: &str) -> String {
     let starts = [format!("fn {function}("), format!("pub fn {function}(")];
     let from = source.lines().skip_while(|line| !starts.iter().any(|start| line.starts_with(start)));
-    let lines = from.skip_while(|line| *line != "{").skip(1).take_while(|line| *line != "}");
+    let lines = from.skip_while(|line| !line.ends_with('{')).skip(1).take_while(|line| *line != "}");
     lines.map(|line| line.split("//").next().unwrap()).collect::<Vec<_>>().join("\n")
 }
 
@@ -20,7 +20,7 @@ fn calls(body: &str) -> Vec<&str> {
     let before = body.match_indices('(').map(|(at, _)| &body[..at]);
     let calls = before.map(|text| {
         let name = text.rsplit(|c: char| !c.is_alphanumeric() && c != '_' && c != ':').next().unwrap();
-        let hidden = name.is_empty() && text.trim_end().ends_with(|c: char| c.is_alphanumeric() || c == '>');
+        let hidden = name.is_empty() && text.trim_end().ends_with(|c: char| c.is_alphanumeric() || c == '>' || c == ')');
         assert!(!hidden, "a call is not read in\n{body}");
         name
     });
@@ -39,6 +39,7 @@ fn no_division_and_no_remainder() {
         assert!(!body.split_whitespace().any(|word| ["while", "for", "loop"].contains(&word)), "{function} has a loop:\n{body}");
         for call in calls(&body).into_iter().filter(|call| !P.contains(call)) {
             let (name, source) = call.strip_prefix("rate::").map_or((call, source), |name| (name, RATE));
+            assert_ne!(name, function, "a function calls itself:\n{body}");
             let called = (name.to_string(), source);
             if !read.contains(&called) {
                 read.push(called);

@@ -5,14 +5,13 @@ use Prim.Native.Nat.{_+_, _%_}
 use native.Mathlib.Nat.{div-le-self}
 use native.Mathlib.Omega.{arith}
 use Rattle.quark.specs.Instance.{instanceOf}
-use Rattle.quark.proofs.Instance.{regular}
 use Rattle.sponge.specs.declared.State.{State}
 use Rattle.sponge.specs.Taking.{bitIndex, addBit}
 use Rattle.sponge.specs.Soundness.{contentOf, stateWith}
 use Rattle.sponge.specs.leaf.Ready.{withSponge}
 use Rattle.sponge.proofs.AfterTaking.{first-of-block}
 use Rattle.sponge.proofs.Contents.{changed, with-changed, ready-content, counted, wide-next, take-bit-runs, take-bit-waits}
-use Rattle.sponge.proofs.StateBytes.{whole-by-32}
+use Rattle.sponge.proofs.StateBytes.{multiple-of-32}
 use Rattle.sponge.proofs.pieces.take_bit.Statement.{statement}
 use Rattle.sponge.proofs.pieces.take_bit.Tie as tie
 
@@ -47,26 +46,26 @@ run-p-requires c κs =
 
 -- the code's test: the next index is that of the total 0, which is a multiple of 32 and so of r, exactly where the total after the bit is a
 -- multiple of r
-whole : (c : tie.After-bit-index2) → let s = c .before .before .before .before .args .state in
+block-ends : (c : tie.After-bit-index2) → let s = c .before .before .before .before .args .state in
     (c .before .bit-index .result ≡ c .bit-index2 .result) ↔ ((s .total + 1) % instanceOf (s .instance) .r ≡ 0)
 unfolding withSponge stateWith contentOf
-whole c =
+block-ends c =
     let s = c .before .before .before .before .args .state in
     let I = instanceOf (s .instance) in
     let next = c .before .bit-index .ensures ∙ ap (λ (t : State). bitIndex I (t .total + 1)) (c .before .before .before .add-bit .ensures) in
-    let first = first-of-block I (regular (s .instance)) (s .total + 1) _ (whole-by-32 (s .instance) _ refl) in
+    let first = first-of-block I (s .total + 1) _ (multiple-of-32 (s .instance) _ refl) in
     (λ e. first .0 (sym next ∙ e ∙ c .bit-index2 .ensures), λ z. next ∙ first .1 z ∙ sym (c .bit-index2 .ensures))
 
 returns : tie.Need-returns
 returns c =
     let a = c .before .before .before .before .before .before .args in
     c .run-p .ensures
-    ∙ take-bit-runs (a .state) (a .bit) _ (next-state (c .before .before .before .before .before)) (whole (c .before .before) .0 (c .before .if1 .taken))
+    ∙ take-bit-runs (a .state) (a .bit) _ (next-state (c .before .before .before .before .before)) (block-ends (c .before .before) .0 (c .before .if1 .taken))
 
 returns-2 : tie.Need-returns-2
 returns-2 c =
     let a = c .before .before .before .before .before .args in
-    next-state (c .before .before .before .before) ∙ take-bit-waits (a .state) (a .bit) (λ z. c .if1 .left (whole (c .before) .1 z))
+    next-state (c .before .before .before .before) ∙ take-bit-waits (a .state) (a .bit) (λ z. c .if1 .left (block-ends (c .before) .1 z))
 
 pub take-bit-spec : {M : Type 1} → statement M
 take-bit-spec =

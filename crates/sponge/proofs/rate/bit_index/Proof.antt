@@ -10,7 +10,7 @@ use lib.Bits.{bitAnd, and-le-l}
 use Rattle.quark.specs.Instance.{instanceOf}
 use Rattle.quark.proofs.Instance.{in-bytes, regular}
 use Rattle.sponge.specs.Taking.{bitIndex}
-use Rattle.sponge.proofs.StateBytes.{under-mask, whole-front}
+use Rattle.sponge.proofs.StateBytes.{mask-remainder, whole-front}
 use Rattle.sponge.proofs.rate.bit_index.Statement.{statement}
 use Rattle.sponge.proofs.rate.bit_index.Tie as tie
 
@@ -19,7 +19,7 @@ remainder : (c : tie.After-rate) → let a = c .before .before .args in
     bitAnd (a .total) (c .rate .result - 1) ≡ a .total % instanceOf (a .instance) .r
 remainder c =
     let a = c .before .before .args in
-    ap (λ (r : ℕ). bitAnd (a .total) (r - 1)) (c .rate .ensures) ∙ under-mask (a .instance) (a .total)
+    ap (λ (r : ℕ). bitAnd (a .total) (r - 1)) (c .rate .ensures) ∙ mask-remainder (a .instance) (a .total)
 
 mul-result : tie.Need-mul-result
 mul-result c = omega (arith, c .last-block .ensures, in-bytes (c .before .args .instance) .at-most-256)
