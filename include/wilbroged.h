@@ -34,7 +34,7 @@
 #include <stdint.h>
 
 /* The version of the project, of which this header and the archive are a part. */
-#define WILBROGED_VERSION "0.2.0"
+#define WILBROGED_VERSION "0.3.0"
 
 /* U-QUARK, D-QUARK and S-QUARK: the number of the instance, the bytes of a state and of a digest, and the widest step width. */
 #define WILBROGED_U 1
@@ -129,8 +129,8 @@ uint32_t quark_digest(uint32_t instance, uint32_t width, const uint8_t *message,
  * The body, numbers with the high byte first:
  *    0-3   station, any value; every record of a journal has the first one's
  *    4-7   sequence: 1 for the first record, then one more each
- *    8-11  time in seconds, any value; it never falls
- *   12     kind: 1 lit, 2 failed, 3 change, 4 test
+ *    8-11  time in seconds, any value; not below the time of the record just before, unless the kind is 5
+ *   12     kind: 1 lit, 2 failed, 3 change, 4 test, 5 clock set
  *   13     lamp position, 1 to 6
  *   14-15  current in milliamperes, any value
  *   16-17  milliseconds until lit, 0 unless the kind is 3

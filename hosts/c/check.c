@@ -300,6 +300,175 @@ static void blank_keys(const uint8_t *sample) {
     }
 }
 
+/* Kinds and times of three records, and what the check answers: the number, and the record's index. */
+struct times {
+    uint8_t kind[3];
+    uint32_t time[3];
+    uint32_t number;
+    uint64_t place;
+};
+
+/* Kind 5 sets the clock, to any time. The time of every other kind is not below the previous record's. */
+static const struct times clocks[] = {
+    {{1, 5, 1}, {1000, 400, 400}, WILBROGED_ACCEPTED, 0},
+    {{1, 5, 2}, {1000, 400, 400}, WILBROGED_ACCEPTED, 0},
+    {{1, 5, 3}, {1000, 400, 400}, WILBROGED_ACCEPTED, 0},
+    {{1, 5, 4}, {1000, 400, 400}, WILBROGED_ACCEPTED, 0},
+    {{1, 5, 5}, {1000, 400, 400}, WILBROGED_ACCEPTED, 0},
+    {{1, 5, 1}, {1000, 400, 399}, WILBROGED_NOT_FOLLOWING, 2},
+    {{1, 5, 2}, {1000, 400, 399}, WILBROGED_NOT_FOLLOWING, 2},
+    {{1, 5, 3}, {1000, 400, 399}, WILBROGED_NOT_FOLLOWING, 2},
+    {{1, 5, 4}, {1000, 400, 399}, WILBROGED_NOT_FOLLOWING, 2},
+    {{1, 5, 5}, {1000, 400, 399}, WILBROGED_ACCEPTED, 0},
+    /* equal and above */
+    {{1, 5, 1}, {1000, 1000, 1000}, WILBROGED_ACCEPTED, 0},
+    {{1, 5, 1}, {1000, 1001, 1001}, WILBROGED_ACCEPTED, 0},
+    {{1, 5, 1}, {1000, 1001, 1000}, WILBROGED_NOT_FOLLOWING, 2},
+    /* from one end of the range to the other */
+    {{1, 5, 1}, {UINT32_MAX, 0, 0}, WILBROGED_ACCEPTED, 0},
+    {{1, 5, 1}, {0, UINT32_MAX, UINT32_MAX}, WILBROGED_ACCEPTED, 0},
+    {{1, 5, 1}, {0, UINT32_MAX, 0}, WILBROGED_NOT_FOLLOWING, 2},
+    /* two in turn, up and down */
+    {{1, 5, 5}, {1000, 2000, 400}, WILBROGED_ACCEPTED, 0},
+    {{1, 5, 5}, {1000, 400, 2000}, WILBROGED_ACCEPTED, 0},
+    {{5, 5, 1}, {1000, 400, 400}, WILBROGED_ACCEPTED, 0},
+    {{5, 5, 1}, {1000, 400, 399}, WILBROGED_NOT_FOLLOWING, 2},
+    /* a first record */
+    {{5, 1, 1}, {0, 0, 0}, WILBROGED_ACCEPTED, 0},
+    {{5, 1, 1}, {UINT32_MAX, UINT32_MAX, UINT32_MAX}, WILBROGED_ACCEPTED, 0},
+    {{5, 1, 1}, {1000, 999, 999}, WILBROGED_NOT_FOLLOWING, 1},
+    {{5, 1, 1}, {400, 700, 699}, WILBROGED_NOT_FOLLOWING, 2},
+    /* no clock is set, or only later */
+    {{1, 4, 1}, {1000, 400, 400}, WILBROGED_NOT_FOLLOWING, 1},
+    {{1, 1, 5}, {1000, 400, 400}, WILBROGED_NOT_FOLLOWING, 1},
+};
+
+/* One byte of a clock set that is changed: what sealing answers, and what the check answers, at that record. */
+struct change {
+    size_t index, at;
+    uint8_t value;
+    uint32_t sealing, checking;
+};
+
+static const struct change changes[] = {
+    /* kinds that there are not */
+    {0, 12, 0, WILBROGED_BROKEN_LAYOUT, WILBROGED_BROKEN_LAYOUT},
+    {0, 12, 6, WILBROGED_BROKEN_LAYOUT, WILBROGED_BROKEN_LAYOUT},
+    {1, 12, 0, WILBROGED_BROKEN_LAYOUT, WILBROGED_BROKEN_LAYOUT},
+    {1, 12, 6, WILBROGED_BROKEN_LAYOUT, WILBROGED_BROKEN_LAYOUT},
+    {1, 12, 255, WILBROGED_BROKEN_LAYOUT, WILBROGED_BROKEN_LAYOUT},
+    /* positions */
+    {1, 13, 0, WILBROGED_BROKEN_LAYOUT, WILBROGED_BROKEN_LAYOUT},
+    {1, 13, 2, WILBROGED_ACCEPTED, WILBROGED_ACCEPTED},
+    {1, 13, 6, WILBROGED_ACCEPTED, WILBROGED_ACCEPTED},
+    {1, 13, 7, WILBROGED_BROKEN_LAYOUT, WILBROGED_BROKEN_LAYOUT},
+    /* 256 milliseconds, and one */
+    {1, 16, 1, WILBROGED_BROKEN_LAYOUT, WILBROGED_BROKEN_LAYOUT},
+    {1, 17, 1, WILBROGED_BROKEN_LAYOUT, WILBROGED_BROKEN_LAYOUT},
+    /* bytes that must be zero */
+    {1, 18, 1, WILBROGED_BROKEN_LAYOUT, WILBROGED_BROKEN_LAYOUT},
+    {1, 22, 1, WILBROGED_BROKEN_LAYOUT, WILBROGED_BROKEN_LAYOUT},
+    /* another station */
+    {1, 0, 1, WILBROGED_ACCEPTED, WILBROGED_NOT_FOLLOWING},
+    {1, 3, 13, WILBROGED_ACCEPTED, WILBROGED_NOT_FOLLOWING},
+    /* sequences: the first is 1, and the next 2 */
+    {0, 7, 0, WILBROGED_ACCEPTED, WILBROGED_NOT_FOLLOWING},
+    {0, 7, 2, WILBROGED_ACCEPTED, WILBROGED_NOT_FOLLOWING},
+    {1, 7, 0, WILBROGED_ACCEPTED, WILBROGED_NOT_FOLLOWING},
+    {1, 7, 1, WILBROGED_ACCEPTED, WILBROGED_NOT_FOLLOWING},
+    {1, 7, 3, WILBROGED_ACCEPTED, WILBROGED_NOT_FOLLOWING},
+    /* any current */
+    {1, 14, 255, WILBROGED_ACCEPTED, WILBROGED_ACCEPTED},
+};
+
+/* A body of station 12, with lamp position 1; numbers have their high byte first. */
+static void make_body(uint8_t *body, uint8_t sequence, uint32_t time, uint8_t kind) {
+    size_t i;
+    memset(body, 0, BODY);
+    body[3] = 12;
+    body[7] = sequence;
+    for (i = 0; i < 4; i++) {
+        body[8 + i] = (uint8_t)(time >> (24 - 8 * i));
+    }
+    body[12] = kind;
+    body[13] = 1;
+}
+
+/*
+ * Seals a body as the record at an index: the answer's number, or 99 where the record is neither the sealed body nor, if the body
+ * is refused, what it was. A refused body then stands there all the same, without a seal.
+ */
+static uint32_t put_record(const uint8_t *key, uint8_t *journal, size_t index, const uint8_t *body) {
+    uint8_t *record = journal + RECORD * index;
+    uint32_t number;
+    memset(record, BEFORE, RECORD);
+    number = journal_seal(key, KEY, index == 0 ? zeros : record - SEAL, SEAL, body, BODY, record, RECORD);
+    if (number == WILBROGED_ACCEPTED ? memcmp(record, body, BODY) != 0 : !all(record, RECORD, BEFORE)) {
+        return 99;
+    }
+    memcpy(record, body, BODY);
+    return number;
+}
+
+/* Whether a journal of three records is answered by a number, at a record. */
+static int answered(const uint8_t *key, const uint8_t *journal, uint32_t number, uint64_t place) {
+    return journal_verify(key, KEY, journal, 3 * RECORD) == number && journal_refused_at(key, KEY, journal, 3 * RECORD) == place;
+}
+
+/* Whether three records, sealed in turn, have their answer. */
+static int times_answered(const uint8_t *key, const struct times *times) {
+    uint8_t body[BODY], journal[3 * RECORD];
+    size_t i;
+    for (i = 0; i < 3; i++) {
+        make_body(body, (uint8_t)(i + 1), times->time[i], times->kind[i]);
+        if (put_record(key, journal, i, body) != WILBROGED_ACCEPTED) {
+            return 0;
+        }
+    }
+    return answered(key, journal, times->number, times->place);
+}
+
+/* Whether three clock sets, of which one is changed, have their answers. */
+static int change_answered(const uint8_t *key, const struct change *change) {
+    uint8_t body[BODY], journal[3 * RECORD];
+    size_t i;
+    for (i = 0; i < 3; i++) {
+        const int changed = i == change->index;
+        make_body(body, (uint8_t)(i + 1), (uint32_t)(1000 - i), 5);
+        if (changed) {
+            body[change->at] = change->value;
+        }
+        if (put_record(key, journal, i, body) != (changed ? change->sealing : WILBROGED_ACCEPTED)) {
+            return 0;
+        }
+    }
+    return answered(key, journal, change->checking, change->checking == WILBROGED_ACCEPTED ? 0 : change->index);
+}
+
+static void clock_sets(const uint8_t *sample) {
+    uint8_t body[BODY], journal[3 * RECORD];
+    size_t i;
+
+    for (i = 0; i < sizeof clocks / sizeof clocks[0]; i++) {
+        CHECK(times_answered(sample, &clocks[i]));
+    }
+    for (i = 0; i < sizeof changes / sizeof changes[0]; i++) {
+        CHECK(change_answered(sample, &changes[i]));
+    }
+
+    /* the seal of each clock set is tested */
+    for (i = 0; i < 3; i++) {
+        make_body(body, (uint8_t)(i + 1), (uint32_t)(1000 - i), 5);
+        CHECK(put_record(sample, journal, i, body) == WILBROGED_ACCEPTED);
+    }
+    CHECK(answered(sample, journal, WILBROGED_ACCEPTED, 0));
+    for (i = 0; i < 3; i++) {
+        journal[RECORD * i + BODY] ^= 1;
+        CHECK(answered(sample, journal, WILBROGED_DIFFERENT_SEAL, i));
+        journal[RECORD * i + BODY] ^= 1;
+    }
+}
+
 /* Reads the sample; 0 where it does not have the length that is expected. */
 static int read_sample(const char *path, uint8_t *sample) {
     FILE *file = fopen(path, "rb");
@@ -324,6 +493,7 @@ int main(int argc, char **argv) {
     if (readable) {
         journals(sample);
         blank_keys(sample);
+        clock_sets(sample);
     }
     printf("%u passed, %u failed\n", passed, failed);
     return failed == 0 && passed > 0 ? 0 : 1;

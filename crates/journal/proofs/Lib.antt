@@ -13,4 +13,5 @@ pub mod FirstBytes
 pub mod Fits
 pub mod SealedInTurn
 pub mod BlankKey
+pub mod Earlier
 pub mod Samples

@@ -28,8 +28,8 @@ extern "C" {
 /// |---|---|
 /// | 0-3 | station |
 /// | 4-7 | sequence: 1 for the first record, then one more each |
-/// | 8-11 | time in seconds; it never falls |
-/// | 12 | kind: 1 lit, 2 failed, 3 change, 4 test |
+/// | 8-11 | time in seconds; not below the time of the record just before, unless the kind is 5 |
+/// | 12 | kind: 1 lit, 2 failed, 3 change, 4 test, 5 clock set |
 /// | 13 | lamp position, 1 to 6 |
 /// | 14-15 | current in milliamperes |
 /// | 16-17 | milliseconds until lit, 0 unless the kind is 3 |
@@ -84,7 +84,7 @@ pub fn seal(key: &[u8], previous: &[u8], body: &[u8], record: &mut [u8]) -> Resu
 ///
 /// let key = [1; 16];
 /// let (mut body, mut record) = ([0; 23], [0; 40]);
-/// (body[7], body[12], body[13]) = (1, 4, 6); // sequence 1, a test of lamp position 6
+/// (body[7], body[11], body[12], body[13]) = (1, 9, 4, 6); // sequence 1, time 9, a test of lamp position 6
 /// seal(&key, &[0; 17], &body, &mut record)?;
 /// assert_eq!(verify(&key, &record), Ok(()));
 ///
@@ -93,6 +93,12 @@ pub fn seal(key: &[u8], previous: &[u8], body: &[u8], record: &mut [u8]) -> Resu
 /// assert_eq!(verify(&key, &journal), Err(Refused { number: Refused::NOT_FOLLOWING, place: Some(1) }));
 ///
 /// assert_eq!(verify(&key, &journal[1..]), Err(Refused { number: Refused::WRONG_JOURNAL_LENGTH, place: None }));
+///
+/// // A record of kind 5 sets the clock, and may set it back: here to time 8.
+/// let mut next = [0; 40];
+/// (body[7], body[11], body[12]) = (2, 8, 5);
+/// seal(&key, &record[23..], &body, &mut next)?;
+/// assert_eq!(verify(&key, &[record, next].concat()), Ok(()));
 ///
 /// // Under a blank key no journal is accepted, not even an empty one.
 /// assert_eq!(verify(&[0; 16], &[]), Err(Refused { number: Refused::BLANK_KEY, place: None }));

@@ -194,7 +194,7 @@ fn rules_have_the_layout() {
             ("-", _) => assert_eq!((first, last), (BODY_BYTES, RECORD_BYTES - 1)),
             ("any value", _) => assert!(takes(1, first, &zeros) && takes(1, first, &ones)),
             ("any value where the kind is 3, else 0", _) => {
-                (1..=4).for_each(|kind| assert_eq!(takes(kind, first, &ones), kind == 3))
+                (1..=5).for_each(|kind| assert_eq!(takes(kind, first, &ones), kind == 3))
             }
             ("0", _) => {
                 for at in first..=last {

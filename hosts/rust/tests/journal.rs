@@ -1,7 +1,7 @@
 //! The journal check agrees with the independent implementation: on whole journals of 0 to 1,600 records, on journals damaged in each
 //! field, resealed or not, torn, over-long, with two faults, and under blank keys. Seeds are fixed.
 use reference::journal::{self as expected, BODY, LONGEST, RECORD, SEAL};
-use reference::journals::{bodies, nearly_blank_keys, reseal, sealed};
+use reference::journals::{bodies, earlier_bodies, nearly_blank_keys, reseal, sealed};
 use reference::random::Random;
 use wilbroged::{verify, Refused};
 
@@ -77,22 +77,30 @@ fn lengths() {
 }
 
 /// The lowest and the highest bit of every byte of the first record, of one in the middle and of the last one: as it is, and sealed again
-/// from there on.
+/// from there on. Of the journals one has a clock set in the middle, and one has none.
 #[test]
 fn damage_in_each_field() {
-    let (key, journal) = key_and_journal(33, 4);
+    let mut random = Random::new(33);
+    let key = random.bytes(16);
+    let without = sealed(&key, &earlier_bodies(&mut random, 4));
+    for journal in [key_and_journal(33, 4).1, without] {
+        damage_each_field(&key, &journal);
+    }
+}
+
+fn damage_each_field(key: &[u8], journal: &[u8]) {
     let mut numbers = [0; 13];
     for record in [0, 2, 3] {
         for bit in (0..8 * RECORD).filter(|bit| bit % 8 == 0 || bit % 8 == 7) {
-            let mut damaged = journal.clone();
+            let mut damaged = journal.to_vec();
             damaged[RECORD * record + bit / 8] ^= 1 << (bit % 8);
-            let (number, place) = compare(&key, &damaged);
+            let (number, place) = compare(key, &damaged);
             assert!(number != 0 && place >= record, "the damage is seen");
             numbers[number as usize] += 1;
 
             // with lawful seals, what is left are the layout and the succession
-            reseal(&key, &mut damaged, if bit / 8 < BODY { record } else { record + 1 });
-            let (number, _) = compare(&key, &damaged);
+            reseal(key, &mut damaged, if bit / 8 < BODY { record } else { record + 1 });
+            let (number, _) = compare(key, &damaged);
             assert!(number != 12 || bit / 8 >= BODY);
             numbers[number as usize] += 1;
         }
@@ -186,12 +194,12 @@ fn nearly_blank_keys_are_taken() {
     }
 }
 
-/// Resealed journals whose successions break: by station, sequence and time, at the first record and later.
+/// Resealed journals whose successions break: by station, sequence and time, at the first record and later. No clock is set.
 #[test]
 fn successions() {
     let mut random = Random::new(37);
     let key = random.bytes(16);
-    let lawful = bodies(&mut random, 4);
+    let lawful = earlier_bodies(&mut random, 4);
     let check = |changed: Vec<reference::journal::Body>| compare(&key, &sealed(&key, &changed));
     for place in 0..4 {
         let mut changed = lawful.clone();
@@ -222,7 +230,7 @@ fn successions() {
     }
 }
 
-/// Station, time and current 0 and all ones, and kind 3 with 0 and 65,535 ms.
+/// Station, time and current 0 and all ones, and kind 3 with 0 and 65,535 ms; every other kind has 0 ms.
 #[test]
 fn extreme_fields() {
     let mut random = Random::new(38);
@@ -234,8 +242,10 @@ fn extreme_fields() {
                 (body.station, body.time, body.current, body.kind, body.milliseconds) = (any, any, any as u16, 3, milliseconds);
             }
             assert_eq!(compare(&key, &sealed(&key, &changed)), (0, 0));
-            changed[1].kind = 4;
-            assert_eq!(compare(&key, &sealed(&key, &changed)), if milliseconds == 0 { (0, 0) } else { (10, 1) });
+            for kind in [1, 2, 4, 5] {
+                changed[1].kind = kind;
+                assert_eq!(compare(&key, &sealed(&key, &changed)), if milliseconds == 0 { (0, 0) } else { (10, 1) });
+            }
         }
     }
 }

@@ -4,8 +4,9 @@
 //! That the program reads all of its input, and tells a failed read from the end, is proved nowhere: no contract of the kit says what a read
 //! reads. So these tests try both mistakes. A buffer one byte shorter would accept `one_byte_over`, and a failed read that is taken for the
 //! end would accept the whole journal of `a_failed_read`.
+use reference::clock_sets::{bodies_at, four, times, CHANGES};
 use reference::journal::{report, Body, BODY, LONGEST, RECORD};
-use reference::journals::{bodies, nearly_blank_keys, reseal, sealed};
+use reference::journals::{bodies, earlier_bodies, nearly_blank_keys, reseal, sealed};
 use reference::random::Random;
 use std::fs::File;
 use std::io::{self, ErrorKind, Read, Write};
@@ -163,8 +164,8 @@ fn one_fault() {
             check(&damaged, &format!("refused {number} {place}"));
         }
     }
-    // a time that falls, and another station, sealed in turn
-    let mut changed = bodies(&mut Random::new(43), 4);
+    // a time that falls where no clock is set, and another station, sealed in turn
+    let mut changed = earlier_bodies(&mut Random::new(43), 4);
     changed[2].time = changed[1].time - 1;
     check(&input(KEY, &changed), "refused 11 2");
     let mut changed = bodies(&mut Random::new(43), 4);
@@ -193,10 +194,10 @@ fn two_faults() {
     check(&damaged(&[(0, 12)])[..16 + 3 * RECORD + 1], "refused 9 0");
 }
 
-/// A damaged record that is sealed again with all records after it: what is left is the layout and the succession.
+/// A damaged record that is sealed again with all records after it: what is left is the layout and the succession. No clock is set.
 #[test]
 fn resealed() {
-    let whole = lawful(45, 4);
+    let whole = input(KEY, &earlier_bodies(&mut Random::new(45), 4));
     for (offset, line) in [(8, "refused 11 2"), (12, "refused 10 1"), (4, "refused 11 1"), (14, "accepted 4 292")] {
         let mut journal = whole[16..].to_vec();
         journal[RECORD + offset] ^= 0x80;
@@ -222,6 +223,59 @@ fn extreme_fields() {
             };
             check(&input(KEY, &[body(1, 1), body(2, 6)]), "accepted 2 146");
         }
+    }
+}
+
+/// Clocks that are set back from 1,000 to 400, and from the last time to the first.
+#[test]
+fn set_backs() {
+    for kind in 1..=4 {
+        check(&input(KEY, &bodies_at(&[(kind, 1_000), (5, 400), (kind, 400)])), "accepted 3 219");
+        check(&input(KEY, &bodies_at(&[(kind, 1_000), (5, 400), (kind, 399)])), "refused 11 2");
+        check(&input(KEY, &bodies_at(&[(5, 1_000), (kind, 400)])), "refused 11 1");
+    }
+    check(&input(KEY, &bodies_at(&[(1, 1_000), (5, 400), (5, 399)])), "accepted 3 219");
+    check(&input(KEY, &bodies_at(&[(1, u32::MAX), (5, 0), (1, 0)])), "accepted 3 219");
+    check(&input(KEY, &bodies_at(&[(1, 0), (5, u32::MAX), (1, 0)])), "refused 11 2");
+    check(&input(KEY, &bodies_at(&[(5, 0)])), "accepted 1 73");
+}
+
+/// Clocks that are set back and forward, with the answer of each journal.
+#[test]
+fn clock_sets() {
+    for (times, refused) in times() {
+        let accepted = || format!("accepted {} {}", times.len(), 73 * times.len());
+        check(&input(KEY, &bodies_at(times)), &refused.map_or_else(accepted, |place| format!("refused 11 {place}")));
+    }
+}
+
+/// A clock set with another field changed, in the middle of four and at the end.
+#[test]
+fn fields_of_clock_sets() {
+    for (change, line) in CHANGES {
+        for place in [1, 3] {
+            let mut changed = four();
+            change(&mut changed[place]);
+            check(&input(KEY, &changed), &line.map_or("accepted 4 292".into(), |line| format!("refused {line} {place}")));
+        }
+    }
+    check(&input(KEY, &bodies_at(&[(6, 0)])), "refused 10 0");
+    check(&input(KEY, &bodies_at(&[(1, 0), (6, 0)])), "refused 10 1");
+    // a first record with sequence 2
+    check(&input(KEY, &four()[1..]), "refused 11 0");
+    let mut other_seal = input(KEY, &four());
+    other_seal[16 + RECORD * 2 + BODY] ^= 1;
+    check(&other_seal, "refused 12 2");
+}
+
+/// A journal that is accepted without kind 5 is accepted still.
+#[test]
+fn earlier_journals_are_accepted() {
+    let as_long_as_the_seed = [1, 2, 3, 10, 64].map(|seed| (seed, seed as usize));
+    let others = [(40, 1_600), (41, 3), (42, 4), (43, 4), (44, 4), (45, 4), (46, 5), (47, 5), (48, 2), (49, 2)];
+    for (seed, records) in as_long_as_the_seed.into_iter().chain(others) {
+        let earlier = input(KEY, &earlier_bodies(&mut Random::new(seed), records));
+        check(&earlier, &format!("accepted {records} {}", 73 * records));
     }
 }
 

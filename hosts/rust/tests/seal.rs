@@ -1,4 +1,5 @@
 //! Sealing agrees with the independent implementation; refused by 5, 16 or 10, in this order, the record buffer is as it was.
+use reference::clock_sets::{four, CHANGES};
 use reference::journal::{self as expected, Body};
 use reference::journals::{bodies, nearly_blank_keys};
 use reference::random::Random;
@@ -32,7 +33,7 @@ fn bodies_that_keep_the_layout() {
 #[test]
 fn extreme_fields() {
     for any in [0, u32::MAX] {
-        for kind in 1..=4 {
+        for kind in 1..=5 {
             for position in 1..=6 {
                 for milliseconds in if kind == 3 { vec![0, 1, 256, u16::MAX] } else { vec![0] } {
                     let body = Body {
@@ -86,7 +87,7 @@ fn lengths() {
 #[test]
 fn layouts() {
     let whole = Body { station: 7, sequence: 0, time: 9, kind: 1, position: 1, current: 300, milliseconds: 0, spare: [0; 5] };
-    for kind in 1..=4 {
+    for kind in 1..=5 {
         let start = Body { kind, ..whole }.bytes();
         for at in 12..23 {
             for byte in 0..=255 {
@@ -94,7 +95,7 @@ fn layouts() {
                 body[at] = byte;
                 let free = at == 14 || at == 15 || kind == 3 && (at == 16 || at == 17);
                 let lawful = match at {
-                    12 => (1..=4).contains(&byte),
+                    12 => (1..=5).contains(&byte),
                     13 => (1..=6).contains(&byte),
                     _ => free || byte == 0,
                 };
@@ -113,8 +114,41 @@ fn kind_and_milliseconds() {
     for kind in 0..=255 {
         for milliseconds in [0, 1, 255, 256, u16::MAX] {
             let body = Body { station: 1, sequence: 1, time: 1, kind, position: 6, current: 0, milliseconds, spare: [0; 5] };
-            let lawful = kind == 3 || (1..=4).contains(&kind) && milliseconds == 0;
+            let lawful = kind == 3 || (1..=5).contains(&kind) && milliseconds == 0;
             assert_eq!(compare(&[3; 16], &[4; 17], &body.bytes(), 40), if lawful { Ok(()) } else { Err(10) });
+        }
+    }
+}
+
+/// A clock set has a position as every kind has, and no milliseconds. What line 11 would refuse is sealed.
+#[test]
+fn clock_sets() {
+    let whole = four()[2];
+    let sealing = |body: Body| compare(&[3; 16], &[4; 17], &body.bytes(), 40);
+    assert_eq!(sealing(whole), Ok(()));
+    for (change, line) in CHANGES {
+        let mut body = whole;
+        change(&mut body);
+        assert_eq!(sealing(body), if *line == Some(10) { Err(10) } else { Ok(()) }, "{body:?}");
+    }
+    for position in 0..=255 {
+        let lawful = (1..=6).contains(&position);
+        assert_eq!(sealing(Body { position, ..whole }), if lawful { Ok(()) } else { Err(10) }, "position {position}");
+    }
+    for milliseconds in 1..=u16::MAX {
+        assert_eq!(sealing(Body { milliseconds, ..whole }), Err(10), "{milliseconds} ms");
+    }
+}
+
+/// Kind 5 is the last one: no other is sealed, at any position and with any time.
+#[test]
+fn kinds_that_there_are_not() {
+    for kind in [0].into_iter().chain(6..=255) {
+        for position in 0..=7 {
+            for time in [0, 400, u32::MAX] {
+                let body = Body { kind, position, time, ..four()[0] };
+                assert_eq!(compare(&[3; 16], &[4; 17], &body.bytes(), 40), Err(10), "kind {kind}, position {position}");
+            }
         }
     }
 }

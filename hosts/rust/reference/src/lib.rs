@@ -2,6 +2,7 @@
 //! tables with the Rattle side: the tests compare the two, and what the programs must write comes from here.
 
 pub mod appendix_b;
+pub mod clock_sets;
 pub mod digest;
 pub mod hexadecimal;
 pub mod journal;
