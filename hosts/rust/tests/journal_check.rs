@@ -4,9 +4,9 @@
 //! That the program reads all of its input, and tells a failed read from the end, is proved nowhere: no contract of the kit says what a read
 //! reads. So these tests try both mistakes. A buffer one byte shorter would accept `one_byte_over`, and a failed read that is taken for the
 //! end would accept the whole journal of `a_failed_read`.
-use reference::clock_sets::{bodies_at, four, times, CHANGES};
+use reference::clock_sets::{bodies_at, journals, CLOCK_KEY};
 use reference::journal::{report, Body, BODY, LONGEST, RECORD};
-use reference::journals::{bodies, earlier_bodies, nearly_blank_keys, reseal, sealed};
+use reference::journals::{bodies, earlier_bodies, earlier_journals, nearly_blank_keys, reseal, sealed};
 use reference::random::Random;
 use std::fs::File;
 use std::io::{self, ErrorKind, Read, Write};
@@ -240,42 +240,25 @@ fn set_backs() {
     check(&input(KEY, &bodies_at(&[(5, 0)])), "accepted 1 73");
 }
 
-/// Clocks that are set back and forward, with the answer of each journal.
+/// Clocks that are set back and forward, other fields of clock sets, and their seals.
 #[test]
 fn clock_sets() {
-    for (times, refused) in times() {
-        let accepted = || format!("accepted {} {}", times.len(), 73 * times.len());
-        check(&input(KEY, &bodies_at(times)), &refused.map_or_else(accepted, |place| format!("refused 11 {place}")));
+    for case in journals() {
+        let records = case.journal.len() / RECORD;
+        let line = match case.answer {
+            Ok(()) => format!("accepted {records} {}\n", 73 * records),
+            Err((number, place)) => format!("refused {number} {place}\n"),
+        };
+        assert_eq!(printed(&[&CLOCK_KEY[..], &case.journal].concat()[..]), line, "{}", case.what);
     }
-}
-
-/// A clock set with another field changed, in the middle of four and at the end.
-#[test]
-fn fields_of_clock_sets() {
-    for (change, line) in CHANGES {
-        for place in [1, 3] {
-            let mut changed = four();
-            change(&mut changed[place]);
-            check(&input(KEY, &changed), &line.map_or("accepted 4 292".into(), |line| format!("refused {line} {place}")));
-        }
-    }
-    check(&input(KEY, &bodies_at(&[(6, 0)])), "refused 10 0");
-    check(&input(KEY, &bodies_at(&[(1, 0), (6, 0)])), "refused 10 1");
-    // a first record with sequence 2
-    check(&input(KEY, &four()[1..]), "refused 11 0");
-    let mut other_seal = input(KEY, &four());
-    other_seal[16 + RECORD * 2 + BODY] ^= 1;
-    check(&other_seal, "refused 12 2");
 }
 
 /// A journal that is accepted without kind 5 is accepted still.
 #[test]
 fn earlier_journals_are_accepted() {
-    let as_long_as_the_seed = [1, 2, 3, 10, 64].map(|seed| (seed, seed as usize));
-    let others = [(40, 1_600), (41, 3), (42, 4), (43, 4), (44, 4), (45, 4), (46, 5), (47, 5), (48, 2), (49, 2)];
-    for (seed, records) in as_long_as_the_seed.into_iter().chain(others) {
-        let earlier = input(KEY, &earlier_bodies(&mut Random::new(seed), records));
-        check(&earlier, &format!("accepted {records} {}", 73 * records));
+    for (key, journal) in earlier_journals() {
+        let records = journal.len() / RECORD;
+        assert_eq!(printed(&[key, journal].concat()[..]), format!("accepted {records} {}\n", 73 * records));
     }
 }
 

@@ -1,5 +1,5 @@
 //! Sealing agrees with the independent implementation; refused by 5, 16 or 10, in this order, the record buffer is as it was.
-use reference::clock_sets::{four, CHANGES};
+use reference::clock_sets::{bodies_at, sealings};
 use reference::journal::{self as expected, Body};
 use reference::journals::{bodies, nearly_blank_keys};
 use reference::random::Random;
@@ -123,33 +123,17 @@ fn kind_and_milliseconds() {
 /// A clock set has a position as every kind has, and no milliseconds. What line 11 would refuse is sealed.
 #[test]
 fn clock_sets() {
-    let whole = four()[2];
-    let sealing = |body: Body| compare(&[3; 16], &[4; 17], &body.bytes(), 40);
-    assert_eq!(sealing(whole), Ok(()));
-    for (change, line) in CHANGES {
-        let mut body = whole;
-        change(&mut body);
-        assert_eq!(sealing(body), if *line == Some(10) { Err(10) } else { Ok(()) }, "{body:?}");
+    let sealing = |body: &Body| compare(&[3; 16], &[4; 17], &body.bytes(), 40);
+    for (body, answer) in sealings() {
+        assert_eq!(sealing(&body), answer, "{body:?}");
     }
+    let whole = bodies_at(&[(5, 1_000)])[0];
     for position in 0..=255 {
         let lawful = (1..=6).contains(&position);
-        assert_eq!(sealing(Body { position, ..whole }), if lawful { Ok(()) } else { Err(10) }, "position {position}");
+        assert_eq!(sealing(&Body { position, ..whole }), if lawful { Ok(()) } else { Err(10) }, "position {position}");
     }
     for milliseconds in 1..=u16::MAX {
-        assert_eq!(sealing(Body { milliseconds, ..whole }), Err(10), "{milliseconds} ms");
-    }
-}
-
-/// Kind 5 is the last one: no other is sealed, at any position and with any time.
-#[test]
-fn kinds_that_there_are_not() {
-    for kind in [0].into_iter().chain(6..=255) {
-        for position in 0..=7 {
-            for time in [0, 400, u32::MAX] {
-                let body = Body { kind, position, time, ..four()[0] };
-                assert_eq!(compare(&[3; 16], &[4; 17], &body.bytes(), 40), Err(10), "kind {kind}, position {position}");
-            }
-        }
+        assert_eq!(sealing(&Body { milliseconds, ..whole }), Err(10), "{milliseconds} ms");
     }
 }
 
