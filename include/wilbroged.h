@@ -129,8 +129,8 @@ uint32_t quark_digest(uint32_t instance, uint32_t width, const uint8_t *message,
  * The body, numbers with the high byte first:
  *    0-3   station, any value; every record of a journal has the first one's
  *    4-7   sequence: 1 for the first record, then one more each
- *    8-11  time in seconds, any value; not below the time of the record just before, unless the kind is 5
- *   12     kind: 1 lit, 2 failed, 3 change, 4 test, 5 clock set
+ *    8-11  time in seconds, any value; not below the time of the record just before, unless this record's kind is 5
+ *   12     kind: 1 lit, 2 failed, 3 change, 4 test, 5 clock set (since 0.3.0; an older archive refuses it by 10)
  *   13     lamp position, 1 to 6
  *   14-15  current in milliamperes, any value
  *   16-17  milliseconds until lit, 0 unless the kind is 3
@@ -142,8 +142,9 @@ uint32_t journal_seal(const uint8_t *key, size_t key_len, const uint8_t *previou
 
 /*
  * Checks a journal, 0 to 1,600 records one after the other: it is accepted where the key has a byte that is not zero, and every record
- * keeps the layout, follows the one before (the first has sequence 1) and has its seal. A journal that was cut after a whole record is
- * accepted too, and so is an empty one: compare journal_len / 40 with the count of records that you expect. It writes nothing.
+ * keeps the layout, follows the one before (the first has sequence 1) and has its seal. So in an accepted journal the time falls at a
+ * record of kind 5 or not at all. A journal that was cut after a whole record is accepted too, and so is an empty one: compare
+ * journal_len / 40 with the count of records that you expect. It writes nothing.
  * Refuses by 5 (key_len is not 16), 16 (every byte of the key is zero) and 9, in this order, then for each record in turn by 10, 11 and 12,
  * in this order.
  */
