@@ -129,7 +129,7 @@ uint32_t quark_digest(uint32_t instance, uint32_t width, const uint8_t *message,
  * The body, numbers with the high byte first:
  *    0-3   station, any value; every record of a journal has the first one's
  *    4-7   sequence: 1 for the first record, then one more each
- *    8-11  time in seconds, any value; not below the time of the record just before, unless this record's kind is 5
+ *    8-11  time in seconds, any value; not below the previous record's, unless this record's kind is 5
  *   12     kind: 1 lit, 2 failed, 3 change, 4 test, 5 clock set (since 0.3.0; an older archive refuses it by 10)
  *   13     lamp position, 1 to 6
  *   14-15  current in milliamperes, any value

@@ -13,5 +13,6 @@ pub mod FirstBytes
 pub mod Fits
 pub mod SealedInTurn
 pub mod BlankKey
+pub mod ClockSet
 pub mod Earlier
 pub mod Samples

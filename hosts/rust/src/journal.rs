@@ -28,7 +28,7 @@ extern "C" {
 /// |---|---|
 /// | 0-3 | station |
 /// | 4-7 | sequence: 1 for the first record, then one more each |
-/// | 8-11 | time in seconds; not below the time of the record just before, unless this record's kind is 5 |
+/// | 8-11 | time in seconds; not below the previous record's, unless this record's kind is 5 |
 /// | 12 | kind: 1 lit, 2 failed, 3 change, 4 test, 5 clock set |
 /// | 13 | lamp position, 1 to 6 |
 /// | 14-15 | current in milliamperes |
