@@ -1,5 +1,5 @@
-//! Journals with clock sets and bodies that set a clock (document 02, 2.4), each with the answer that the rule gives. The answers are worked
-//! out by hand, and the tests of every implementation compare with them.
+//! Journals with clock sets and bodies that set a clock (document 02, 2.4), each with the answer that the rule gives. The answers are written
+//! here and come from no implementation; the tests of every one compare with them.
 use crate::journal::{Body, BODY, CLOCK_SET, KEY, RECORD};
 use crate::journals::sealed;
 
@@ -14,7 +14,7 @@ pub struct Case {
     pub answer: Result<(), (u32, usize)>,
 }
 
-/// The journal of bodies, sealed in turn; where it is refused, the number and the place.
+/// The journal of bodies, sealed in turn, and the number and the place where it is refused.
 fn case(bodies: &[Body], refused: Option<(u32, usize)>) -> Case {
     Case { what: format!("{bodies:?}"), journal: sealed(CLOCK_KEY, bodies), answer: refused.map_or(Ok(()), Err) }
 }
@@ -220,7 +220,8 @@ fn fields() -> Vec<Case> {
     cases
 }
 
-/// Bodies that set a clock, or have a kind that there is not, and the refusal of sealing: it reads line 10 alone.
+/// Clock sets with one field changed or with any station, sequence and time, and all 256 kinds; and the answer of sealing, which reads line
+/// 10 alone.
 pub fn sealings() -> Vec<(Body, Result<(), u32>)> {
     let changed = CHANGES.iter().map(|(change, line)| {
         let mut body = four()[2];
