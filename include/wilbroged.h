@@ -57,7 +57,7 @@
 /* The answer of a call that is accepted. */
 #define WILBROGED_ACCEPTED 0
 
-/* The refusals, by the numbers of docs/RULES.md. Numbers 2, 3, 8, 13, 14 and 15 are never answered here. */
+/* The refusals, by the numbers of docs/RULES.md. Numbers 2, 3, 8, 13, 14, 15, 17, 18 and 19 are never answered here. */
 
 /* No instance has this number. */
 #define WILBROGED_UNKNOWN_INSTANCE 1

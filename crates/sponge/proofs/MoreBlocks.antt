@@ -24,13 +24,14 @@ use Rattle.sponge.specs.declared.State.{State}
 use Rattle.sponge.specs.Taking.{Content, squeezeOutput, extraSqueezed}
 use Rattle.sponge.specs.Soundness.{extraLimit, mostBlocks, closedPhase, contentOf, stateWith}
 use Rattle.sponge.specs.Outcomes.{line2, line3Squeeze, line14, line15, finishNumber, finishBytes, blocksBytes, squeezeNumber, squeezeResult, squeezeBytes, resultBy}
-use Rattle.sponge.specs.Calls.{Call, finish, squeeze, stateNumber, run, Message, grown, extended, messageOf}
+use Rattle.sponge.specs.Calls.{finish, squeeze, stateNumber, Message, grown, extended}
+use Rattle.sponge.specs.Lists.{CallList, run, messageOf}
 use Rattle.sponge.specs.MoreBlocks.{TwoCalls, OneCall, AtOnce, givenOut, DigestFirst, BlocksNext, MoreBlocks}
 use Rattle.sponge.proofs.Contents.{wide-content, of-content}
 use Rattle.sponge.proofs.Passed.{squeeze-passed}
 use Rattle.sponge.proofs.Messages.{stateOf, no-extras, content-message, sponge-closed, accepted-grows, finish-open, squeeze-closed}
 use Rattle.sponge.proofs.SoundCalls.{squeeze-sound}
-use Rattle.sponge.proofs.TwoLists.{run-state, answers}
+use Rattle.sponge.proofs.TwoLists.{run-state, state-answer}
 use Rattle.sponge.proofs.WholeDigest.{whole-digest}
 use Rattle.sponge.proofs.Squeezing.{length-output, whole-output}
 
@@ -145,9 +146,9 @@ module _ (s : State) (w w′ j k : ℕ) (buffer buffer′ : List ℕ) (both : Tw
 
 -- ---- digest and blocks together
 
-module _ (i : ℕ) (is-instance : isInstance i ≡ true) (calls : List Call) where
+module _ (i : ℕ) (is-instance : isInstance i ≡ true) (list : CallList) where
   abbrev m : Message
-  m = messageOf i calls
+  m = messageOf i list
 
   -- n/r + e blocks and k more, as bytes
   blocks-out : (e k : ℕ)
@@ -167,33 +168,33 @@ module _ (i : ℕ) (is-instance : isInstance i ≡ true) (calls : List Call) whe
       ∙ ap₂ bytesOf (add-assoc (stateBytes i) (blocksBytes i e) (blocksBytes i k) ∙ ap (λ (n : ℕ). stateBytes i + n) (sym (bytes-of-both i e k)))
       (output-goes-on I (regular i) e k (m .bits) ∙ ap (λ (n : ℕ). output I n c) (add-assoc (I .n / I .r) e k))
 
-  first-out : (w : ℕ) (buffer : List ℕ) → finishNumber (run i calls) w (length buffer) ≡ 0
-      → finishBytes (run i calls) w buffer ≡ givenOut i (extended i m (finish w (length buffer)))
+  first-out : (w : ℕ) (buffer : List ℕ) → finishNumber (run i list .state) w (length buffer) ≡ 0
+      → finishBytes (run i list .state) w buffer ≡ givenOut i (extended i m (finish w (length buffer)))
   unfolding finishBytes stateNumber givenOut grown digest blocksBytes
   first-out w buffer accepted =
       let I = instanceOf i in
       let call = finish w (length buffer) in
-      let r = run-state i is-instance calls in
-      let taken = sym (answers i is-instance calls call) ∙ accepted in
+      let r = run-state i is-instance list in
+      let taken = sym (state-answer i is-instance list call) ∙ accepted in
       let open′ = finish-open i m w (length buffer) taken in
       let is-open = ap₂ {C = Message} (λ (c : Bool) (e : ℕ). record { bits = m .bits; closed = c; extras = e }) open′ (no-extras m (r .1) open′) in
       let size : stateBytes i ≡ stateBytes i + 0 * (I .r / 8) = omega (arith, zero-mul (I .r / 8)) in
       sym (accepted-left _ buffer _ accepted)
-      ∙ whole-digest i (m .bits) (run i calls) (r .0 ∙ ap (stateOf i) is-open)
+      ∙ whole-digest i (m .bits) (run i list .state) (r .0 ∙ ap (stateOf i) is-open)
       ∙ ap₂ (λ (n k : ℕ). bytesOf n (output I k (absorbed I (m .bits)))) size (sym (add-zero (I .n / I .r)))
       ∙ ap (givenOut i) (sym (accepted-grows i m call taken))
 
-  next-out : (w k : ℕ) (buffer : List ℕ) → squeezeNumber (run i calls) w k (length buffer) ≡ 0
-      → givenOut i m ++ squeezeBytes (run i calls) w k buffer ≡ givenOut i (extended i m (squeeze w k (length buffer)))
+  next-out : (w k : ℕ) (buffer : List ℕ) → squeezeNumber (run i list .state) w k (length buffer) ≡ 0
+      → givenOut i m ++ squeezeBytes (run i list .state) w k buffer ≡ givenOut i (extended i m (squeeze w k (length buffer)))
   unfolding squeezeBytes stateNumber givenOut grown squeezeOutput stateOf stateWith
   next-out w k buffer accepted =
       let I = instanceOf i in
       let call = squeeze w k (length buffer) in
-      let taken = sym (answers i is-instance calls call) ∙ accepted in
+      let taken = sym (state-answer i is-instance list call) ∙ accepted in
       let shut = squeeze-closed i m w k (length buffer) taken in
       ap (λ (l : List ℕ). givenOut i m ++ l)
       (sym (accepted-left _ buffer _ accepted)
-      ∙ ap (λ (s : State). bytesOf (blocksBytes (s .instance) k) (squeezeOutput (instanceOf (s .instance)) k (contentOf s))) (run-state i is-instance calls .0)
+      ∙ ap (λ (s : State). bytesOf (blocksBytes (s .instance) k) (squeezeOutput (instanceOf (s .instance)) k (contentOf s))) (run-state i is-instance list .0)
       ∙ ap (λ (h : Content). bytesOf (blocksBytes i k) (squeezeOutput I k h)) (content-message i m)
       ∙ ap (λ (c : Counted). bytesOf (blocksBytes i k) (output I k (runP I c))) (sponge-closed i m shut))
       ∙ blocks-out (m .extras) k

@@ -1,20 +1,26 @@
 -- What follows where no line refuses a call, and the reply by the number that the lines give.
-use mathlib.Core.Bool.{true, false}
-use mathlib.Core.Path.{_≡_, refl, sym, _∙_}
-use Prim.Native.Nat.{ℕ, _+_, _*_, _≤_}
+use mathlib.Core.Bool.{Bool, true, false, not, _||_}
+use mathlib.Core.List.{List, [], _∷_, _++_}
+use mathlib.Core.Path.{_≡_, refl, sym, ap, _∙_}
+use Prim.Native.Nat.{ℕ, _+_, _*_, _-_, _/_, _%_, _<_, _≤_}
 use native.Mathlib.Omega.{arith}
-use borrow.Author.Tests.{ltb-false, not-false}
-use lib.Dec.{ltb}
+use borrow.Author.Tests.{ltb-false, leb-false, eqb-true, not-false, eq-eqb, ne-eqb}
+use lib.Dec.{ltb, eqb}
+use lib.ListN.{length}
+use Rattle.refusals.specs.Lines.{firstLine}
 use Rattle.refusals.specs.Outcome.{accepted, refused}
-use Rattle.refusals.proofs.FirstLine.{none-holds, neither, right-length}
+use Rattle.refusals.proofs.FirstLine.{none-holds, with-rest, none-in-front, decided-before, neither, right-length}
 use Rattle.refusals.proofs.Outcome.{refused-outcome, accepted-outcome, refused-left, accepted-left}
 use Rattle.quark.specs.Instance.{isInstance, isWidth, stateBytes}
 use Rattle.permutation.specs.Lines.{line1, line4}
 use Rattle.sponge.specs.declared.State.{State}
 use Rattle.sponge.specs.Soundness.{limit, extraLimit, mostBlocks, sound}
-use Rattle.sponge.specs.Outcomes.{Result, resultBy, line2, line3, line3Squeeze, line6, line7, line14, line15, blocksBytes, absorbNumber, finishNumber, squeezeNumber, digestNumber}
+use Rattle.sponge.specs.Marks.{markSize, mostMarkBytes, stateIn, markAt, latest, found}
+use Rattle.sponge.specs.Outcomes.{Result, resultBy, line2, line2Mark, line3, line3Squeeze, line6, line7, line14, line15, line17, line18, line19, blocksBytes, absorbNumber, finishNumber, squeezeNumber, markNumber, recallNumber, digestNumber}
+use Rattle.sponge.specs.leaf.Marks.{foundNumber}
 use Rattle.sponge.specs.leaf.Ready.{ZeroPast, Ready}
-use Rattle.sponge.proofs.Soundness.{Absorbing, absorbing, Closed, closed}
+use Rattle.sponge.proofs.Soundness.{either-way, phase-byte, Absorbing, absorbing, Closed, closed}
+use Rattle.sponge.proofs.MarkBytes.{latest-within}
 
 -- lines 1 and 4, and the zeros of a sound state
 ready-passed : (s : State) (w : ℕ) → line1 (s .instance) ≡ false → line4 (s .instance) w ≡ false → ZeroPast s → Ready s w
@@ -89,6 +95,96 @@ squeeze-passed s w k buffer e =
       at-most = ltb-false mostBlocks k (range .1);
       room = ltb-false extraLimit (s .extra + k) (search none);
     }
+
+-- ---- a mark
+
+-- an instance's number is a byte
+instance-byte : (i : ℕ) → isInstance i ≡ true → i < 256
+unfolding isInstance
+instance-byte i =
+    either-way (eqb i 1 || eqb i 2) (eqb i 3)
+    (either-way (eqb i 1) (eqb i 2) (λ h. omega (arith, eqb-true i 1 h)) (λ h. omega (arith, eqb-true i 2 h)))
+    (λ h. omega (arith, eqb-true i 3 h))
+
+-- line 19: there is room for one more mark
+pub mark-room : (bytes count : ℕ) → line19 bytes count ≡ false → 64 * count + 64 ≤ bytes
+unfolding line19
+mark-room bytes count e = omega (arith, leb-false (bytes / markSize) count e)
+
+-- line 17: the marks in use fit
+count-passed : (bytes count : ℕ) → line17 bytes count ≡ false → 64 * count ≤ bytes
+unfolding line17
+count-passed bytes count e =
+    let within = neither (ltb mostMarkBytes bytes || not (eqb (bytes % markSize) 0)) (ltb (bytes / markSize) count) e .1 in
+    omega (arith, ltb-false (bytes / markSize) count within)
+
+pub record MarkPassed (s : State) (bytes count : ℕ) : Type 0 where
+  pub instance-small : s .instance < 256
+  pub phase-small : s .phase < 256
+  pub room : 64 * count + 64 ≤ bytes
+
+pub mark-passed : (s : State) (bytes count : ℕ) → markNumber s bytes count ≡ 0 → MarkPassed s bytes count
+unfolding markNumber line1 line2
+mark-passed s bytes count e =
+    let none = none-holds _ refl e in
+    record {
+      instance-small = instance-byte (s .instance) (not-false (isInstance (s .instance)) (search none));
+      phase-small = phase-byte s (not-false (sound s) (search none));
+      room = mark-room bytes count (search none);
+    }
+
+-- ---- a recall
+
+-- the lines of the last of some marks, if there is one
+pub none-there : (buffer : List ℕ) (upto : ℕ) → upto ≡ 0 → 18 ≡ foundNumber buffer upto
+unfolding foundNumber firstLine
+none-there buffer upto none = rw (eq-eqb upto 0 none)
+
+pub lines-of-last : (buffer mark : List ℕ) (upto : ℕ) → (upto ≡ 0 → ⊥) → mark ≡ markAt buffer (upto - 1)
+    → firstLine ((line1 (stateIn mark .instance), 1) ∷ (line2Mark mark, 2) ∷ []) ≡ foundNumber buffer upto
+unfolding foundNumber firstLine
+lines-of-last buffer mark upto some e = rw (e, ne-eqb upto 0 some)
+
+-- the lines of the state and of the buffer come first, then those of the mark that is found
+abbrev marksLines : State → (bytes count : ℕ) → List (Bool × ℕ)
+marksLines s bytes count = (line1 (s .instance), 1) ∷ (line2 s, 2) ∷ (line17 bytes count, 17) ∷ []
+
+abbrev foundLines : (name buffer : List ℕ) (count : ℕ) → List (Bool × ℕ)
+foundLines name buffer count =
+    (line18 name buffer count, 18) ∷ (line1 (stateIn (found name buffer count) .instance), 1) ∷ (line2Mark (found name buffer count), 2) ∷ []
+
+module _ (s : State) (name buffer : List ℕ) (count front : ℕ) (e : front ≡ firstLine (marksLines s (length buffer) count ++ ((true, 0) ∷ []))) where
+  by-marks : front ≡ firstLine (marksLines s (length buffer) count)
+  unfolding firstLine
+  by-marks = with-rest (marksLines s (length buffer) count) [] e refl
+
+  -- one of the first lines holds: the others are not read
+  pub recall-by-front : (front ≡ 0 → ⊥) → front ≡ recallNumber s name buffer count
+  unfolding recallNumber
+  recall-by-front = decided-before [] (marksLines s (length buffer) count) (foundLines name buffer count) front by-marks
+
+  -- none of them holds: the marks in use fit the buffer, and the others decide
+  module _ (none : front ≡ 0) where
+    pub marks-fit : 64 * count ≤ length buffer
+    marks-fit =
+        let each = none-holds (marksLines s (length buffer) count) refl (sym by-marks ∙ none) in
+        count-passed (length buffer) count (search each)
+
+    module _ (upto rest : ℕ) (eu : upto ≡ latest name buffer count) (er : rest ≡ foundNumber buffer upto) where
+      pub recall-by-rest : rest ≡ recallNumber s name buffer count
+      unfolding recallNumber foundNumber line18 found
+      recall-by-rest =
+          er
+          ∙ ap (foundNumber buffer) eu
+          ∙ sym (none-in-front (marksLines s (length buffer) count) (foundLines name buffer count) refl (sym by-marks ∙ none))
+
+      -- where none of those holds either, there is a mark, and it stands in the buffer
+      pub mark-found : rest ≡ 0 → (0 < upto) × (64 * (upto - 1) + 64 ≤ length buffer)
+      mark-found none-either =
+          let within = latest-within name buffer count in
+          let fit = marks-fit in
+          let some : (upto ≡ 0 → ⊥) = λ z. omega (arith, none-there buffer upto z) in
+          (omega arith, omega arith)
 
 -- ---- the whole digest
 

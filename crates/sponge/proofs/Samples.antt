@@ -1,6 +1,6 @@
 -- The edges of the lines and of soundness, the order of lines, and messages of lists, by computation.
 use mathlib.Core.Bool.{Bool, true, false}
-use mathlib.Core.List.{[], _∷_}
+use mathlib.Core.List.{List, [], _∷_, _++_}
 use mathlib.Core.Path.{_≡_, refl}
 use Prim.Native.Nat.{ℕ}
 use lib.ListN.{replicate}
@@ -9,9 +9,12 @@ use Rattle.quark.specs.Bytes.{tabulate, bitAt, bitsOf}
 use Rattle.quark.specs.Instance.{instanceOf, U, D, S, isInstance, isWidth, stateBytes}
 use Rattle.permutation.specs.Lines.{line1, line4}
 use Rattle.sponge.specs.declared.State.{State}
+use Rattle.sponge.specs.Bytes.{same, fourByteNumber}
 use Rattle.sponge.specs.Soundness.{allZero, soundRuns, mostExtra, sound, allZeros}
-use Rattle.sponge.specs.Outcomes.{line2, line3Squeeze, line6, line7, line8, line14, line15, blocksBytes, squeezeNumber, digestNumber}
-use Rattle.sponge.specs.Calls.{Message, piece, finish, squeeze, messageNumber, grown, extended, extendedBy, messageOf}
+use Rattle.sponge.specs.Marks.{fourBytes, markFields, markOf, nameIn, stateIn, endsInZeros, markAt, latest, found}
+use Rattle.sponge.specs.Outcomes.{line2, line2Mark, line3Squeeze, line6, line7, line8, line14, line15, line17, line18, line19, blocksBytes, squeezeNumber, markNumber, recallNumber, digestNumber}
+use Rattle.sponge.specs.Calls.{Message, piece, finish, squeeze, messageNumber, grown, extended}
+use Rattle.sponge.specs.Lists.{Name, on-state, mark, recall, isSaved, latestSaved, messagesNumber, messagesAfter, messagesFrom, messagesOf, messageOf}
 
 -- a state whose bytes are one byte, 32 times, and whether it is sound
 abbrev stateAt : (instance phase total runs extra byte : ℕ) → State
@@ -85,10 +88,14 @@ squeeze-order = (refl, refl, refl, refl, refl, refl, refl, refl, refl, refl, ref
 -- that comes too early, a piece of 6 bits, a finish, 2 blocks, a squeeze whose buffer is too short, 3 blocks, and a piece that comes too late
 pub message :
     messageOf 1
-    (piece (0b10100000 ∷ []) 3 1 ∷ piece (255 ∷ []) 8 16 ∷ piece [] 1 8 ∷ finish 1 16 ∷ squeeze 8 1 1 ∷ piece (0b11000100 ∷ []) 6 8
-    ∷ finish 8 17 ∷ squeeze 8 2 2 ∷ squeeze 8 2 1 ∷ squeeze 1 3 3 ∷ piece (255 ∷ []) 8 1 ∷ [])
+    (record {
+      buffer = [];
+      calls = on-state (piece (0b10100000 ∷ []) 3 1) ∷ on-state (piece (255 ∷ []) 8 16) ∷ on-state (piece [] 1 8) ∷ on-state (finish 1 16)
+          ∷ on-state (squeeze 8 1 1) ∷ on-state (piece (0b11000100 ∷ []) 6 8) ∷ on-state (finish 8 17) ∷ on-state (squeeze 8 2 2)
+          ∷ on-state (squeeze 8 2 1) ∷ on-state (squeeze 1 3 3) ∷ on-state (piece (255 ∷ []) 8 1) ∷ [];
+    })
     ≡ record { bits = 1 ∷ 0 ∷ 1 ∷ 1 ∷ 1 ∷ 0 ∷ 0 ∷ 0 ∷ 1 ∷ []; closed = true; extras = 5 }
-unfolding messageOf extendedBy extended messageNumber grown firstLine line4 line5 line6 line7 line14 line15 blocksBytes isWidth stateBytes instanceOf U bitsOf tabulate bitAt
+unfolding messagesOf messagesFrom messagesAfter extended messageNumber grown firstLine line4 line5 line6 line7 line14 line15 blocksBytes isWidth stateBytes instanceOf U bitsOf tabulate bitAt
 message = refl
 
 -- a closed message of U with one extra block to the limit: 2 blocks are refused and add nothing, and 1 is the last
@@ -98,3 +105,110 @@ withExtras e = record { bits = []; closed = true; extras = e }
 pub extras : (extended 1 (withExtras 1048575) (squeeze 8 2 2) ≡ withExtras 1048575) × (extended 1 (withExtras 1048575) (squeeze 8 1 1) ≡ withExtras 1048576)
 unfolding extended messageNumber grown firstLine line4 line5 line14 line15 blocksBytes isWidth instanceOf U
 extras = (refl, refl)
+
+-- ---- marks
+
+-- a name of one byte, 16 times
+abbrev named : ℕ → List ℕ
+named x = replicate 16 x
+
+-- the bytes of a mark, and the state in it
+pub mark-bytes :
+    (markOf (named 255) (stateAt 3 1 0x01020304 0x05060708 0x090A0B0C 170)
+    ≡ named 255 ++ (3 ∷ 1 ∷ 1 ∷ 2 ∷ 3 ∷ 4 ∷ 5 ∷ 6 ∷ 7 ∷ 8 ∷ 9 ∷ 10 ∷ 11 ∷ 12 ∷ (replicate 32 170 ++ (0 ∷ 0 ∷ []))))
+    × (stateIn (named 255 ++ (3 ∷ 1 ∷ 1 ∷ 2 ∷ 3 ∷ 4 ∷ 5 ∷ 6 ∷ 7 ∷ 8 ∷ 9 ∷ 10 ∷ 11 ∷ 12 ∷ (replicate 32 170 ++ (0 ∷ 0 ∷ []))))
+    ≡ stateAt 3 1 0x01020304 0x05060708 0x090A0B0C 170)
+unfolding markOf markFields fourBytes stateIn fourByteNumber
+mark-bytes = (refl, refl)
+
+pub mark-edges :
+    -- no bytes, 64, 64,000 and 64,064, a byte less and more than a mark
+    (line17 0 0 ≡ false) × (line17 64 0 ≡ false) × (line17 64000 0 ≡ false) × (line17 64064 0 ≡ true) × (line17 63 0 ≡ true) × (line17 65 0 ≡ true)
+    -- as many marks in use as there are, and one more
+    × (line17 64000 1000 ≡ false) × (line17 64000 1001 ≡ true) × (line17 0 1 ≡ true) × (line17 64 18446744073709551615 ≡ true)
+    -- all in use, and one left
+    × (line19 0 0 ≡ true) × (line19 64 0 ≡ false) × (line19 64 1 ≡ true) × (line19 64000 999 ≡ false) × (line19 64000 1000 ≡ true)
+unfolding line17 line19
+mark-edges = (refl, refl, refl, refl, refl, refl, refl, refl, refl, refl, refl, refl, refl, refl, refl)
+
+-- a mark of a state of no bits taken, with all bits zero, and its last two bytes
+abbrev markWith : (name : List ℕ) (instance phase runs x y : ℕ) → List ℕ
+markWith name instance phase runs x y = name ++ markFields (stateAt instance phase 0 runs 0 0) ++ replicate 32 0 ++ (x ∷ y ∷ [])
+
+-- five marks: the names 1, 2 and 1 again, and two that differ from 1 in the last byte, or the first
+abbrev five : List ℕ
+five =
+    markWith (named 1) 1 0 0 0 0 ++ markWith (named 2) 2 0 0 0 0 ++ markWith (named 1) 3 0 0 0 0 ++ markWith (replicate 15 1 ++ (7 ∷ [])) 1 0 0 0 0
+    ++ markWith (7 ∷ replicate 15 1) 1 0 0 0 0
+
+pub searched :
+    -- the latest of the first 5 marks, of the first 2, and of none
+    (latest (named 1) five 5 ≡ 3) × (latest (named 1) five 2 ≡ 1) × (latest (named 1) five 0 ≡ 0)
+    × (latest (named 2) five 5 ≡ 2) × (latest (named 2) five 1 ≡ 0)
+    -- a name of which only the first, or the last, byte differs
+    × (latest (replicate 15 1 ++ (7 ∷ [])) five 5 ≡ 4) × (latest (7 ∷ replicate 15 1) five 5 ≡ 5)
+    × (stateIn (found (named 1) five 5) .instance ≡ 3)
+unfolding latest found markAt nameIn same markFields fourBytes stateIn
+searched = (refl, refl, refl, refl, refl, refl, refl, refl)
+
+-- what mark answers a state of no bits taken, with all bits zero
+pub markNumberAt : (instance runs bytes count : ℕ) → ℕ
+markNumberAt instance runs bytes count = markNumber (stateAt instance 0 0 runs 0 0) bytes count
+
+-- a marking that several lines refuse answers the first of them: lines 1, 2 and 17 each with all that come after it, then 19, and then none
+pub mark-order :
+    (markNumberAt 0 1 65 1 ≡ 1) × (markNumberAt 1 1 65 1 ≡ 2) × (markNumberAt 1 0 65 1 ≡ 17) × (markNumberAt 1 0 64 2 ≡ 17)
+    × (markNumberAt 1 0 64 1 ≡ 19) × (markNumberAt 1 0 64 0 ≡ 0)
+unfolding markNumberAt markNumber firstLine line1 line2 line17 line19 sound soundRuns mostExtra allZero isInstance stateBytes instanceOf U S
+mark-order = (refl, refl, refl, refl, refl, refl)
+
+-- what recall answers such a state, under the name 1
+pub recallNumberAt : (instance runs : ℕ) (buffer : List ℕ) (count : ℕ) → ℕ
+recallNumberAt instance runs buffer count = recallNumber (stateAt instance 0 0 runs 0 0) (named 1) buffer count
+
+-- a return that several lines refuse answers the first of them. The mark that is found is broken in its instance and its last byte, then in its
+-- last byte, in the byte before, and in its runs; a sound one before it is not tried. Then none holds
+pub recall-order :
+    (recallNumberAt 0 1 (1 ∷ markWith (named 1) 0 0 0 0 1) 2 ≡ 1)
+    × (recallNumberAt 1 1 (1 ∷ markWith (named 1) 0 0 0 0 1) 2 ≡ 2)
+    × (recallNumberAt 1 0 (1 ∷ markWith (named 1) 0 0 0 0 1) 1 ≡ 17)
+    × (recallNumberAt 1 0 (markWith (named 1) 0 0 0 0 1) 2 ≡ 17)
+    × (recallNumberAt 1 0 (markWith (named 2) 0 0 0 0 1) 1 ≡ 18)
+    × (recallNumberAt 1 0 (markWith (named 1) 1 0 0 0 0) 0 ≡ 18)
+    × (recallNumberAt 1 0 [] 0 ≡ 18)
+    × (recallNumberAt 1 0 (markWith (named 1) 0 0 0 0 1) 1 ≡ 1)
+    × (recallNumberAt 1 0 (markWith (named 1) 1 0 0 0 1) 1 ≡ 2)
+    × (recallNumberAt 1 0 (markWith (named 1) 1 0 0 1 0) 1 ≡ 2)
+    × (recallNumberAt 1 0 (markWith (named 1) 1 0 1 0 0) 1 ≡ 2)
+    × (recallNumberAt 1 0 (markWith (named 1) 1 0 0 0 0 ++ markWith (named 1) 0 0 0 0 0) 2 ≡ 1)
+    × (recallNumberAt 1 0 (markWith (named 1) 0 0 0 0 0 ++ markWith (named 1) 3 0 0 0 0) 2 ≡ 0)
+unfolding recallNumberAt recallNumber firstLine line1 line2 line17 line18 line2Mark endsInZeros latest found markAt nameIn same markFields fourBytes stateIn fourByteNumber sound soundRuns mostExtra allZero isInstance stateBytes instanceOf U S
+recall-order = (refl, refl, refl, refl, refl, refl, refl, refl, refl, refl, refl, refl, refl)
+
+-- ---- a list with marks
+
+abbrev A : Name
+A = record { bytes = named 1; sixteen = refl }
+
+abbrev B : Name
+B = record { bytes = named 2; sixteen = refl }
+
+-- a message of U
+abbrev messageWith : List ℕ → Bool → ℕ → Message
+messageWith bits closed extras = record { bits = bits; closed = closed; extras = extras }
+
+-- a bit 1 is taken, and marked as A; then a bit 0, a finish and 2 blocks, marked as B; a third mark is one too many; a return to A opens the
+-- message again, a bit 1 is taken, and a return to B brings back the closed one with its blocks, to which a squeeze adds one
+pub marked-list :
+    messagesOf 1
+    (record {
+      buffer = replicate 128 0;
+      calls = recall A ∷ on-state (piece (0b10000000 ∷ []) 1 1) ∷ mark A ∷ on-state (piece (0 ∷ []) 1 8) ∷ on-state (finish 8 17)
+          ∷ on-state (squeeze 8 2 2) ∷ mark B ∷ mark A ∷ recall A ∷ on-state (piece (0b10000000 ∷ []) 1 1) ∷ recall B ∷ on-state (squeeze 8 1 1) ∷ [];
+    })
+    ≡ record {
+      current = messageWith (1 ∷ 0 ∷ []) true 3;
+      saved = record { name = B; message = messageWith (1 ∷ 0 ∷ []) true 2 } ∷ record { name = A; message = messageWith (1 ∷ []) false 0 } ∷ [];
+    }
+unfolding messagesOf messagesFrom messagesAfter messagesNumber isSaved latestSaved same line17 line19 extended messageNumber grown firstLine line4 line5 line6 line7 line14 line15 blocksBytes isWidth stateBytes instanceOf U bitsOf tabulate bitAt
+marked-list = refl

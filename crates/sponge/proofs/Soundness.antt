@@ -1,7 +1,7 @@
 -- Sound states: which states by what they hold are sound, and what a sound state has that is not closed, or not absorbing.
 use mathlib.Core.Bool.{Bool, true, false, _&&_, _||_, true≢false, and-eq-true-iff, or-comm}
 use mathlib.Core.Path.{_≡_, refl, sym, _∙_}
-use Prim.Native.Nat.{ℕ, _+_, _/_, _≤_}
+use Prim.Native.Nat.{ℕ, _+_, _/_, _<_, _≤_}
 use native.Mathlib.Omega.{arith}
 use borrow.Author.Tests.{le-leb, leb-true, eq-eqb, eqb-true}
 use lib.Dec.{leb, eqb}
@@ -28,14 +28,14 @@ sound-state i p h w within few runs phase =
     )
 
 -- the tests of a sound state
-record Sound (s : State) : Type 0 where
+pub record Sound (s : State) : Type 0 where
   pub total-within : s .total ≤ limit
   pub extra-within : s .extra ≤ mostExtra (s .phase)
   pub zeros : ZeroPast s
   pub runs-are : s .runs ≡ soundRuns (instanceOf (s .instance)) (s .phase) (s .total) (s .extra)
   pub phases : (eqb (s .phase) absorbingPhase || eqb (s .phase) closedPhase) ≡ true
 
-tests : (s : State) → sound s ≡ true → Sound s
+pub tests : (s : State) → sound s ≡ true → Sound s
 unfolding sound
 tests s e =
     let total = leb (s .total) limit in
@@ -58,6 +58,18 @@ tests s e =
 other-holds : (a b : Bool) → (a || b) ≡ true → b ≡ false → a ≡ true
 other-holds true b e f = refl
 other-holds false b e f = absurd (true≢false (sym e ∙ f))
+
+-- what follows from each of two tests follows where one holds
+pub either-way : (a b : Bool) {A : Type 0} → (a ≡ true → A) → (b ≡ true → A) → (a || b) ≡ true → A
+either-way true b f g e = f refl
+either-way false b f g e = g e
+
+-- the phase is a byte
+pub phase-byte : (s : State) → sound s ≡ true → s .phase < 256
+phase-byte s e =
+    let p = s .phase in
+    either-way (eqb p absorbingPhase) (eqb p closedPhase) (λ h. omega (arith, eqb-true p absorbingPhase h)) (λ h. omega (arith, eqb-true p closedPhase h))
+    (tests s e .phases)
 
 pub record Absorbing (s : State) : Type 0 where
   pub total-within : s .total ≤ limit

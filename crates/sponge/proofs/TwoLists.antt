@@ -1,10 +1,12 @@
--- Demand 3: the state after a list is the one that the list's message and extras determine, and two closed states are compared by the
--- definition's sponge over the two messages.
+-- Demand 3: what a list's calls leave is what the list's messages determine (`Lists`), and two closed states are compared by the definition's
+-- sponge over the two messages.
 use mathlib.Core.Bool.{true}
 use mathlib.Core.List.{List, [], _∷_}
 use mathlib.Core.Logic.{_↔_, _⊎_}
-use mathlib.Core.Path.{_≡_, refl, sym, ap, _∙_, subst}
-use Prim.Native.Nat.{ℕ}
+use mathlib.Core.Path.{_≡_, refl, sym, ap, ap₂, _∙_, subst}
+use Prim.Native.Nat.{ℕ, _+_, _*_}
+use lib.ListN.{length, drop}
+use Rattle.refusals.specs.Outcome.{outcome}
 use Rattle.quark.specs.Bytes.{bitsOf}
 use Rattle.quark.specs.Instance.{instanceOf, isInstance}
 use Rattle.quark.specs.Sponge.{Counted, pad, blockCount, squeezed, closed}
@@ -13,96 +15,126 @@ use Rattle.quark.proofs.Blocks.{wide-closed}
 use Rattle.quark.proofs.CloseAlike.{close-alike, one-block-apart}
 use Rattle.quark.proofs.Forward.{squeezed-same, squeezed-injective}
 use Rattle.quark.proofs.Instance.{regular}
-use Rattle.sponge.specs.declared.State.{State}
 use Rattle.sponge.specs.Soundness.{stateWith}
-use Rattle.sponge.specs.Calls.{Call, stateNumber, after, runFrom, run, Message, empty, messageNumber, extended, extendedBy, messageOf}
-use Rattle.sponge.specs.TwoLists.{spongeOf, Follows, RunFollows, AnswersFollow, bitsIn, Comparable, ListsCloseAlike, TwoLists, OneBlockApart, Demand3}
+use Rattle.sponge.specs.Marks.{markSize, nameIn, stateIn, endsInZeros}
+use Rattle.sponge.specs.Outcomes.{markOutcome}
+use Rattle.sponge.specs.Calls.{Call, stateNumber, Message, messageNumber}
+use Rattle.sponge.specs.Lists.{Name, ListCall, on-state, mark, CallList, ListState, listNumber, listAfter, run, Saved, messagesNumber, messagesAfter, messagesOf, messageOf}
+use Rattle.sponge.specs.TwoLists.{spongeOf, Follows, MarksFollow, ListFollows, RunFollows, AnswersFollow, CountsFollow, bitsIn, Comparable, ListsCloseAlike, TwoLists, OneBlockApart, Demand3}
 use Rattle.sponge.proofs.StateBytes.{bits-content}
-use Rattle.sponge.proofs.Messages.{stateOf, wide-sponge, sponge-closed, sound-message, init-empty, Admissible, admissible-empty, refused-adds-nothing, refused-keeps, same-number, after-call, admissible-after}
+use Rattle.sponge.proofs.WrittenMarks.{name-back, zeros-back}
+use Rattle.sponge.proofs.Messages.{stateOf, wide-sponge, sponge-closed, sound-message, Admissible}
+use Rattle.sponge.proofs.Lists.{refused-leaves, refused-saves-nothing, Kept, Stands, stands, long-state, state-of-mark, answers}
 
 -- ---- one list
 
+-- the state of a message follows it
+follows-message : (i : ℕ) (m : Message) → Admissible m → Follows i m (stateOf i m)
+unfolding stateOf stateWith
+follows-message i m h = record {
+  is-sound = sound-message i m h;
+  instance-is = refl;
+  phase-is = refl;
+  total-is = refl;
+  runs-are = refl;
+  extra-is = refl;
+  bits-are = bits-content i (spongeOf i m .bits) (wide-sponge i m);
+}
+
 module _ (i : ℕ) (is-instance : isInstance i ≡ true) where
-  run-message : (m : Message) (calls : List Call) → Admissible m
-      → (runFrom (stateOf i m) calls ≡ stateOf i (extendedBy i m calls)) × Admissible (extendedBy i m calls)
-  unfolding runFrom extendedBy
-  run-message m [] h = (refl, h)
-  run-message m (call ∷ calls) h =
-      let rest = run-message (extended i m call) calls (admissible-after i is-instance m h call) in
-      (ap (λ (s : State). runFrom s calls) (after-call i is-instance m h call) ∙ rest .0, rest .1)
+  -- and so do the marks
+  marks-follow : (b : List ℕ) (saved : List Saved) → Kept i is-instance saved b → MarksFollow i b saved
+  unfolding MarksFollow Kept
+  marks-follow b [] k = tt
+  marks-follow b (s ∷ earlier) k =
+      let name = s .name in (
+        ap nameIn (k .0) ∙ name-back (name .bytes) (stateOf i (s .message)) (name .sixteen),
+        subst (Follows i (s .message)) (sym (ap stateIn (k .0) ∙ state-of-mark i is-instance name (s .message) (k .1))) (follows-message i (s .message) (k .1)),
+        ap endsInZeros (k .0) ∙ zeros-back (name .bytes) (stateOf i (s .message)) (name .sixteen) (long-state i is-instance (s .message)),
+        marks-follow b earlier (k .2),
+      )
 
-  module _ (calls : List Call) where
-    pub run-state : (run i calls ≡ stateOf i (messageOf i calls)) × Admissible (messageOf i calls)
-    unfolding run messageOf
-    run-state =
-        let r = run-message empty calls admissible-empty in
-        (ap (λ (s : State). runFrom s calls) (init-empty i is-instance) ∙ r .0, r .1)
+  module _ (list : CallList) where
+    abbrev s : Stands i is-instance (list .buffer) (messagesOf i list) (run i list)
+    s = stands i is-instance list
 
-    follows : Follows i (messageOf i calls) (run i calls)
-    unfolding stateOf stateWith
+    pub run-state : (run i list .state ≡ stateOf i (messageOf i list)) × Admissible (messageOf i list)
+    run-state = (ap (λ (h : ListState). h .state) (s .is), s .within)
+
+    follows : ListFollows i list
     follows =
-        let m = messageOf i calls in
-        subst (Follows i m) (sym (run-state .0))
-        (record {
-          is-sound = sound-message i m (run-state .1);
-          instance-is = refl;
-          phase-is = refl;
-          total-is = refl;
-          runs-are = refl;
-          extra-is = refl;
-          bits-are = bits-content i (spongeOf i m .bits) (wide-sponge i m);
-        })
+        let saved = messagesOf i list .saved in
+        let buffer : run i list .buffer ≡ s .buffer = ap (λ (h : ListState). h .buffer) (s .is) in
+        record {
+          state-follows = subst (Follows i (messageOf i list)) (sym (run-state .0)) (follows-message i (messageOf i list) (s .within));
+          count-is = ap (λ (h : ListState). h .count) (s .is);
+          marks-follow = subst (λ (b : List ℕ). MarksFollow i b saved) (sym buffer) (marks-follow (s .buffer) saved (s .kept));
+          rest-stays = ap (drop (markSize * length saved)) buffer ∙ s .rest;
+        }
 
-    pub answers : (call : Call) → stateNumber (run i calls) call ≡ messageNumber i (messageOf i calls) call
-    answers call = ap (λ (s : State). stateNumber s call) (run-state .0) ∙ same-number i is-instance (messageOf i calls) (run-state .1) call
+    each-answer : (call : ListCall) → listNumber (run i list) call ≡ messagesNumber i (length (list .buffer)) (messagesOf i list) call
+    each-answer call = answers i is-instance (list .buffer) (messagesOf i list) (run i list) s call
 
-    -- a call that is refused changes nothing, neither the state nor the message
-    pub refused-changes-nothing : (call : Call) → (stateNumber (run i calls) call ≡ 0 → ⊥)
-        → (after (run i calls) call ≡ run i calls) × (extended i (messageOf i calls) call ≡ messageOf i calls)
-    refused-changes-nothing call refused =
-        (refused-keeps (run i calls) call refused, refused-adds-nothing i (messageOf i calls) call (λ z. refused (answers call ∙ z)))
+    -- of a piece, a finish or a squeeze
+    pub state-answer : (call : Call) → stateNumber (run i list .state) call ≡ messageNumber i (messageOf i list) call
+    unfolding listNumber messagesNumber
+    state-answer call = each-answer (on-state call)
+
+    counts : (name : Name)
+        → markOutcome (run i list .state) (length (run i list .buffer)) (run i list .count)
+        ≡ outcome (messagesNumber i (length (list .buffer)) (messagesOf i list) (mark name)) (length (messagesOf i list .saved) + 1)
+    unfolding markOutcome listNumber
+    counts name = ap₂ (λ (n k : ℕ). outcome n (k + 1)) (each-answer (mark name)) (follows .count-is)
+
+    -- a call that is refused changes nothing: neither state, buffer and count, nor the messages
+    pub refused-changes-nothing : (call : ListCall) → (listNumber (run i list) call ≡ 0 → ⊥)
+        → (listAfter (run i list) call ≡ run i list) × (messagesAfter i (length (list .buffer)) (messagesOf i list) call ≡ messagesOf i list)
+    refused-changes-nothing call refused = (
+      refused-leaves (run i list) call refused,
+      refused-saves-nothing i (length (list .buffer)) (messagesOf i list) call (λ z. refused (each-answer call ∙ z)),
+    )
 
     -- the bits of a closed state
-    closed-bits : messageOf i calls .closed ≡ true
-        → bitsOf (instanceOf i .b) (run i calls .bits) ≡ squeezed (instanceOf i) (messageOf i calls .extras) (closed (instanceOf i) (bitsIn i calls)) .bits
-    closed-bits e = follows .bits-are ∙ ap (λ (c : Counted). c .bits) (sponge-closed i (messageOf i calls) e)
+    closed-bits : messageOf i list .closed ≡ true
+        → bitsOf (instanceOf i .b) (run i list .state .bits) ≡ squeezed (instanceOf i) (messageOf i list .extras) (closed (instanceOf i) (bitsIn i list)) .bits
+    closed-bits e = follows .state-follows .bits-are ∙ ap (λ (c : Counted). c .bits) (sponge-closed i (messageOf i list) e)
 
 -- ---- two lists
 
-module _ (i : ℕ) (calls calls′ : List Call) (both : Comparable i calls calls′) where
+module _ (i : ℕ) (list list′ : CallList) (both : Comparable i list list′) where
   abbrev m : List ℕ
-  m = bitsIn i calls
+  m = bitsIn i list
 
   abbrev m′ : List ℕ
-  m′ = bitsIn i calls′
+  m′ = bitsIn i list′
 
   -- two lists close alike exactly when their messages do: equally many extra blocks neither join states nor part them
-  messages-alike : ListsCloseAlike i calls calls′ ↔ CloseAlike (instanceOf i) m m′
+  messages-alike : ListsCloseAlike i list list′ ↔ CloseAlike (instanceOf i) m m′
   unfolding ListsCloseAlike
   messages-alike =
       let I = instanceOf i in
-      let e = messageOf i calls .extras in
+      let e = messageOf i list .extras in
       let s = closed I m in
       let t = closed I m′ in
-      let left = closed-bits i (both .is-instance) calls (both .closes) in
-      let right = closed-bits i (both .is-instance) calls′ (both .closes′) ∙ ap (λ (n : ℕ). squeezed I n t .bits) (sym (both .equal-extras)) in (
+      let left = closed-bits i (both .is-instance) list (both .closes) in
+      let right = closed-bits i (both .is-instance) list′ (both .closes′) ∙ ap (λ (n : ℕ). squeezed I n t .bits) (sym (both .equal-extras)) in (
         λ p. squeezed-injective I (regular i) e s t (wide-closed I (regular i) m) (wide-closed I (regular i) m′) (sym left ∙ p ∙ right),
         λ p. left ∙ squeezed-same I e s t p ∙ sym right,
       )
 
-  two : ListsCloseAlike i calls calls′ ↔ (m ≡ m′) ⊎ Meet (instanceOf i) m m′
+  two : ListsCloseAlike i list list′ ↔ (m ≡ m′) ⊎ Meet (instanceOf i) m m′
   two =
       let alike = close-alike (instanceOf i) (regular i) m m′ (both .equal-counts) in
       (λ p. alike .0 (messages-alike .0 p), λ p. messages-alike .1 (alike .1 p))
 
   apart : (k : ℕ) → OnlyDiffering (instanceOf i) (pad (instanceOf i) m) (pad (instanceOf i) m′) (blockCount (instanceOf i) m) k
-      → ¬ ListsCloseAlike i calls calls′
+      → ¬ ListsCloseAlike i list list′
   apart k only p =
-      one-block-apart (instanceOf i) (regular i) m m′ (both .equal-counts) (run-state i (both .is-instance) calls .1 .of-bits)
-      (run-state i (both .is-instance) calls′ .1 .of-bits) k only (messages-alike .0 p)
+      one-block-apart (instanceOf i) (regular i) m m′ (both .equal-counts) (run-state i (both .is-instance) list .1 .of-bits)
+      (run-state i (both .is-instance) list′ .1 .of-bits) k only (messages-alike .0 p)
 
 -- ---- the theorem
 
 pub demand-3 : Demand3
-unfolding RunFollows AnswersFollow TwoLists OneBlockApart
-demand-3 = record { run-follows = follows; answers-follow = answers; two-lists = two; one-block-apart = apart }
+unfolding RunFollows AnswersFollow CountsFollow TwoLists OneBlockApart
+demand-3 = record { run-follows = follows; answers-follow = each-answer; counts-follow = counts; two-lists = two; one-block-apart = apart }

@@ -1,5 +1,5 @@
--- Calls in a list, pieces, finishes and squeezes, and the message that a list has, with its extras (document 01, "Pieces and finish";
--- document 02, 2.1; demand 3).
+-- Calls on a state alone, pieces, finishes and squeezes, and what each makes of a message, with its extras (document 01, "Pieces and
+-- finish"; document 02, 2.1; demand 3). Lists of calls are in `Lists`.
 use mathlib.Core.Bool.{Bool, true, false, not, cond}
 use mathlib.Core.List.{List, [], _∷_, _++_}
 use Prim.Native.Nat.{ℕ, _+_}
@@ -10,7 +10,7 @@ use Rattle.quark.specs.Bytes.{bitsOf}
 use Rattle.quark.specs.Instance.{stateBytes}
 use Rattle.permutation.specs.Lines.{line4}
 use Rattle.sponge.specs.declared.State.{State}
-use Rattle.sponge.specs.Outcomes.{line6, line7, line14, line15, initResult, absorbNumber, absorbResult, finishNumber, finishResult, blocksBytes, squeezeNumber, squeezeResult}
+use Rattle.sponge.specs.Outcomes.{line6, line7, line14, line15, absorbNumber, absorbResult, finishNumber, finishResult, blocksBytes, squeezeNumber, squeezeResult}
 
 -- a call's arguments but the state: of a piece the bytes of its slice at the call, its bit count and its step width; of a finish its step
 -- width and the length of its buffer; of a squeeze its step width, its number of blocks and the length of its buffer
@@ -33,16 +33,7 @@ after s (piece bytes count width) = absorbResult s width bytes count .state
 after s (finish width buffer) = finishResult s width buffer .state
 after s (squeeze width k buffer) = squeezeResult s width k buffer .state
 
--- the calls of a list one after the other, each on what the previous one left
-unfoldable pub runFrom : State → List Call → State
-runFrom s [] = s
-runFrom s (call ∷ calls) = runFrom (after s call) calls
-
--- from the state that `init` makes
-unfoldable pub run : ℕ → List Call → State
-run i calls = runFrom (initResult i .state) calls
-
--- ---- the message of a list, worked out from arguments and from no state
+-- ---- the message, worked out from arguments and from no state
 
 -- its bits, and whether it is closed; and beside it the extras, the blocks given out since the finish
 pub record Message : Type 0 where
@@ -74,10 +65,3 @@ grown m (squeeze width k buffer) = record { bits = m .bits; closed = m .closed; 
 -- the message after one more call: it grows exactly where no line holds, so that a refused call adds nothing
 unfoldable pub extended : ℕ → Message → Call → Message
 extended i m call = cond (eqb (messageNumber i m call) 0) (grown m call) m
-
-unfoldable pub extendedBy : ℕ → Message → List Call → Message
-extendedBy i m [] = m
-extendedBy i m (call ∷ calls) = extendedBy i (extended i m call) calls
-
-unfoldable pub messageOf : ℕ → List Call → Message
-messageOf i calls = extendedBy i empty calls

@@ -11,7 +11,8 @@ use Rattle.quark.specs.Sponge.{absorbed, output}
 use Rattle.sponge.specs.declared.State.{State}
 use Rattle.sponge.specs.Soundness.{mostBlocks, sound}
 use Rattle.sponge.specs.Outcomes.{finishNumber, finishBytes, blocksBytes, squeezeNumber, squeezeResult, squeezeBytes}
-use Rattle.sponge.specs.Calls.{Call, finish, squeeze, run, Message, extended, messageOf}
+use Rattle.sponge.specs.Calls.{finish, squeeze, Message, extended}
+use Rattle.sponge.specs.Lists.{CallList, run, messageOf}
 
 -- an accepted call gives a sound state
 unfoldable pub SqueezeSound : Type 0
@@ -47,14 +48,14 @@ givenOut i m =
 -- in a list, an accepted finish writes the first of it
 unfoldable pub DigestFirst : Type 0
 DigestFirst =
-    (i : ℕ) → isInstance i ≡ true → (calls : List Call) (w : ℕ) (buffer : List ℕ) → finishNumber (run i calls) w (length buffer) ≡ 0
-    → finishBytes (run i calls) w buffer ≡ givenOut i (extended i (messageOf i calls) (finish w (length buffer)))
+    (i : ℕ) → isInstance i ≡ true → (list : CallList) (w : ℕ) (buffer : List ℕ) → finishNumber (run i list .state) w (length buffer) ≡ 0
+    → finishBytes (run i list .state) w buffer ≡ givenOut i (extended i (messageOf i list) (finish w (length buffer)))
 
 -- and an accepted squeeze what comes next
 unfoldable pub BlocksNext : Type 0
 BlocksNext =
-    (i : ℕ) → isInstance i ≡ true → (calls : List Call) (w k : ℕ) (buffer : List ℕ) → squeezeNumber (run i calls) w k (length buffer) ≡ 0
-    → givenOut i (messageOf i calls) ++ squeezeBytes (run i calls) w k buffer ≡ givenOut i (extended i (messageOf i calls) (squeeze w k (length buffer)))
+    (i : ℕ) → isInstance i ≡ true → (list : CallList) (w k : ℕ) (buffer : List ℕ) → squeezeNumber (run i list .state) w k (length buffer) ≡ 0
+    → givenOut i (messageOf i list) ++ squeezeBytes (run i list .state) w k buffer ≡ givenOut i (extended i (messageOf i list) (squeeze w k (length buffer)))
 
 pub record MoreBlocks : Type 0 where
   pub squeeze-sound : SqueezeSound

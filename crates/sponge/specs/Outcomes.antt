@@ -1,20 +1,23 @@
--- What each operation answers, for every input (document 01, "Pieces and finish"; document 02, 2.1; the lines are those of docs/RULES.md).
--- Where a call is refused, the lent bytes are as they were, and so is the state, where one was given.
-use mathlib.Core.Bool.{Bool, not, _||_, cond}
+-- What each operation answers, for every input (document 01, "Pieces and finish"; document 02, 2.1 and 2.5; the lines are those of
+-- docs/RULES.md). Where a call is refused, the lent bytes are as they were, and so is the state, where one was given.
+use mathlib.Core.Bool.{Bool, not, _&&_, _||_, cond}
 use mathlib.Core.List.{List, [], _∷_}
 use Prim.Native.Nat.{ℕ, _+_, _*_, _-_, _/_, _%_}
-use lib.Dec.{ltb, eqb}
+use lib.Dec.{leb, ltb, eqb}
 use lib.ListN.{length}
 use Rattle.refusals.specs.Lines.{firstLine, line5}
-use Rattle.refusals.specs.Outcome.{Outcome, outcome, outcomeOf}
+use Rattle.refusals.specs.Outcome.{Outcome, accepted, refused, outcome, outcomeOf}
 use Rattle.quark.specs.Bytes.{bitsOf, bytesOf}
 use Rattle.quark.specs.Instance.{instanceOf, stateBytes}
 use Rattle.quark.specs.Sponge.{digest}
 use Rattle.permutation.specs.Lines.{line1, line4}
 use Rattle.sponge.specs.declared.State.{State}
 use Rattle.sponge.specs.declared.Reply.{Reply}
+use Rattle.sponge.specs.declared.Marked.{Marked}
+use Rattle.sponge.specs.declared.Marked.the-variants.{Count, Refused}
 use Rattle.sponge.specs.Taking.{takeBits, finishOutput, finished, squeezeOutput, extraSqueezed}
 use Rattle.sponge.specs.Soundness.{limit, extraLimit, mostBlocks, absorbingPhase, closedPhase, sound, contentOf, stateWith, fresh, allZeros}
+use Rattle.sponge.specs.Marks.{markSize, mostMarkBytes, markOf, stateIn, endsInZeros, withMark, latest, found}
 
 -- ---- the lines
 
@@ -50,6 +53,22 @@ line14 k = ltb k 1 || ltb mostBlocks k
 -- 15. The state would have given out more than 1,048,576 extra blocks.
 unfoldable pub line15 : (extra k : ℕ) → Bool
 line15 extra k = ltb extraLimit (extra + k)
+
+-- 17. The buffer is not 0 to 1,000 whole marks, or has fewer marks than the count says.
+unfoldable pub line17 : (bytes count : ℕ) → Bool
+line17 bytes count = ltb mostMarkBytes bytes || not (eqb (bytes % markSize) 0) || ltb (bytes / markSize) count
+
+-- 18. No mark in use has the name.
+unfoldable pub line18 : (name buffer : List ℕ) (count : ℕ) → Bool
+line18 name buffer count = eqb (latest name buffer count) 0
+
+-- 19. Every mark of the buffer is in use.
+unfoldable pub line19 : (bytes count : ℕ) → Bool
+line19 bytes count = leb (bytes / markSize) count
+
+-- 2, for a mark that is found: its state is not sound, or one of its last two bytes is not zero.
+unfoldable pub line2Mark : List ℕ → Bool
+line2Mark mark = not (endsInZeros mark && sound (stateIn mark))
 
 -- ---- a call's answer with the state that it hands back
 
@@ -121,6 +140,37 @@ squeezeResult s w k buffer =
 unfoldable pub squeezeBytes : State → (w k : ℕ) → List ℕ → List ℕ
 squeezeBytes s w k buffer =
     cond (eqb (squeezeNumber s w k (length buffer)) 0) (bytesOf (blocksBytes (s .instance) k) (squeezeOutput (instanceOf (s .instance)) k (contentOf s))) buffer
+
+-- ---- mark
+
+unfoldable pub markNumber : State → (bytes count : ℕ) → ℕ
+markNumber s bytes count =
+    firstLine ((line1 (s .instance), 1) ∷ (line2 s, 2) ∷ (line17 bytes count, 17) ∷ (line19 bytes count, 19) ∷ [])
+
+-- what an answer of `mark` stands for
+unfoldable pub markedOutcome : Marked → Outcome ℕ
+markedOutcome (Count count) = accepted count
+markedOutcome (Refused r) = refused (r .number) (r .place)
+
+-- accepted, the new count is answered
+unfoldable pub markOutcome : State → (bytes count : ℕ) → Outcome ℕ
+markOutcome s bytes count = outcome (markNumber s bytes count) (count + 1)
+
+-- the buffer after mark: the mark stands after those in use
+unfoldable pub markBytes : State → (name buffer : List ℕ) (count : ℕ) → List ℕ
+markBytes s name buffer count = cond (eqb (markNumber s (length buffer) count) 0) (withMark buffer count (markOf name s)) buffer
+
+-- ---- recall
+
+-- the lines of the state and of the buffer, then those of the mark that is found
+unfoldable pub recallNumber : State → (name buffer : List ℕ) (count : ℕ) → ℕ
+recallNumber s name buffer count =
+    firstLine
+    ((line1 (s .instance), 1) ∷ (line2 s, 2) ∷ (line17 (length buffer) count, 17) ∷ (line18 name buffer count, 18)
+    ∷ (line1 (stateIn (found name buffer count) .instance), 1) ∷ (line2Mark (found name buffer count), 2) ∷ [])
+
+unfoldable pub recallResult : State → (name buffer : List ℕ) (count : ℕ) → Result
+recallResult s name buffer count = resultBy (recallNumber s name buffer count) s (stateIn (found name buffer count))
 
 -- ---- digest
 

@@ -1,2 +1,3 @@
 -- Forms that only the contracts of private functions cite.
 pub mod Ready
+pub mod Marks

@@ -1,4 +1,5 @@
-// Document 01's fresh state, and the state that comes back where the instance is refused. No other function makes a state field by field.
+// Document 01's fresh state, and the state that comes back where the instance is refused. Besides these, only reading a mark makes a state
+// field by field.
 ghost use mathlib.Core.Path.{_≡_};
 ghost use Rattle.quark.specs.Bytes.{bytesOf};
 ghost use Rattle.quark.specs.Instance.{instanceOf};

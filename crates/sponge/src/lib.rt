@@ -1,10 +1,10 @@
-// Hashing by pieces of bits (document 01, "Pieces and finish"; QUARK 3.1): a fresh state, pieces, finish, more blocks (document 02, 2.1), and
-// the whole digest.
+// Hashing by pieces of bits (document 01, "Pieces and finish"; QUARK 3.1): a fresh state, pieces, finish, more blocks (document 02, 2.1), marks
+// to come back to (document 02, 2.5), and the whole digest.
 // A state is passed by value and comes back beside the answer. All tests of a call precede all of its work.
 ghost use mathlib.Core.Path.{_≡_};
 ghost use lib.ListN.{length};
 ghost use Rattle.refusals.specs.Outcome.{outcomeOf};
-ghost use Rattle.sponge.specs.Outcomes.{resultOf, initResult, absorbResult, finishResult, finishBytes, squeezeResult, squeezeBytes, digestOutcome, digestBytes};
+ghost use Rattle.sponge.specs.Outcomes.{resultOf, initResult, absorbResult, finishResult, finishBytes, squeezeResult, squeezeBytes, markedOutcome, markOutcome, markBytes, recallResult, digestOutcome, digestBytes};
 use permutation::lines::UNKNOWN_INSTANCE;
 use permutation::lines::is_instance;
 use refusals::Answer;
@@ -12,6 +12,7 @@ use refusals::Refusal;
 
 mod fresh;
 mod lines;
+mod marks;
 mod output;
 mod pieces;
 mod rate;
@@ -38,6 +39,12 @@ pub struct State {
 pub struct Reply {
     pub answer: Answer,
     pub state: State,
+}
+
+// What `mark` answers: how many marks are in use after it, or why it was refused.
+pub enum Marked {
+    Count(usize),
+    Refused(Refusal),
 }
 
 // Document 01's fresh state: no bit taken, no run made, no extra block given out, and the instance's initial bits.
@@ -88,6 +95,38 @@ pub fn squeeze(state: State, width: u32, k: usize, buffer: &mut [u8]) -> Reply
         return replies::refuse(number, state);
     }
     replies::accept(output::give_extra(state, width, k, buffer))
+}
+
+// Document 02's marking: writes the state under a name into the buffer, 64 bytes after `count` marks in use, and answers count + 1.
+// Refuses by lines 1, 2, 17 and 19, in this order; the buffer is then untouched.
+pub fn mark(state: State, name: [u8; 16], buffer: &mut [u8], count: usize) -> Marked
+    ensures answer { λ r. ⌜ markedOutcome r ≡ markOutcome state (length (now (buffer .entry))) count ⌝ }
+    ensures bytes { λ _. ⌜ now (buffer .exit) ≡ markBytes state name (now (buffer .entry)) count ⌝ }
+{
+    let number = lines::mark_line(state, buffer.len(), count);
+    if number != 0 {
+        return Marked::Refused(Refusal { number, place: 0 });
+    }
+    marks::write(state, name, buffer, count);
+    Marked::Count(count + 1)
+}
+
+// Document 02's coming back, from a sound state of any phase: hands back the state of the latest mark with the name among the `count` in use,
+// whatever its instance.
+// Refuses by lines 1, 2, 17 and 18, and then by lines 1 and 2 of the mark that is found, in this order; the state is then the one that was given.
+pub fn recall(state: State, name: [u8; 16], buffer: &[u8], count: usize) -> Reply
+    ensures { λ r. ⌜ resultOf r ≡ recallResult state name (now (buffer .entry)) count ⌝ }
+{
+    let number = lines::marks_line(state, buffer.len(), count, 0);
+    if number != 0 {
+        return replies::refuse(number, state);
+    }
+    let upto = marks::latest(name, buffer, count);
+    let number = lines::found_line(buffer, upto);
+    if number != 0 {
+        return replies::refuse(number, state);
+    }
+    replies::accept(marks::state_in(marks::mark_at(buffer, upto - 1)))
 }
 
 // Document 01's whole digest: writes the digest of the first `count` bits of the message into the buffer. It is `init`, one `absorb` and

@@ -1,11 +1,18 @@
-// The lines (docs/RULES.md) that read a state, a count, a total or a number of blocks, and the order of the lines in each operation. Lines 1
-// and 4 are the permutation's, and the number of line 5 is in `refusals`.
+// The lines (docs/RULES.md) that read a state, a count, a total, a number of blocks or a mark, and the order of the lines in each operation.
+// Lines 1 and 4 are the permutation's, and the number of line 5 is in `refusals`.
+ghost use mathlib.Core.Bool.{true};
+ghost use mathlib.Core.List.{[], _∷_};
 ghost use mathlib.Core.Path.{_≡_};
-ghost use Prim.Native.Nat.{_+_};
+ghost use Prim.Native.Nat.{_+_, _*_, _≤_};
 ghost use lib.Dec.{ltb};
-ghost use Rattle.refusals.specs.Lines.{line5};
-ghost use Rattle.sponge.specs.Outcomes.{line6, line8, line14, blocksBytes, absorbNumber, finishNumber, squeezeNumber, digestNumber};
+ghost use lib.ListN.{length};
+ghost use Rattle.refusals.specs.Lines.{firstLine, line5};
+ghost use Rattle.permutation.specs.Lines.{line1};
+ghost use Rattle.sponge.specs.Marks.{stateIn};
+ghost use Rattle.sponge.specs.Outcomes.{line2, line2Mark, line6, line8, line14, line17, blocksBytes, absorbNumber, finishNumber, squeezeNumber, markNumber, digestNumber};
+ghost use Rattle.sponge.specs.leaf.Marks.{foundNumber};
 use crate::State;
+use crate::marks;
 use crate::rate;
 use crate::sound::EXTRA_LIMIT;
 use crate::sound::LIMIT;
@@ -41,6 +48,15 @@ const BLOCKS_OUT_OF_RANGE: u32 = 14;
 
 // 15. The state would have given out more than 1,048,576 extra blocks.
 const EXTRA_OVER_LIMIT: u32 = 15;
+
+// 17. The buffer is not 0 to 1,000 whole marks, or has fewer marks than the count says.
+const WRONG_MARK_BUFFER: u32 = 17;
+
+// 18. No mark in use has the name.
+const NO_SUCH_MARK: u32 = 18;
+
+// 19. Every mark of the buffer is in use.
+const NO_FREE_MARK: u32 = 19;
 
 // Line 6. 8 times the bytes is worked out only where it does not pass the count, so it cannot wrap.
 fn count_over(bytes: usize, count: usize) -> bool
@@ -87,6 +103,13 @@ fn out_of_range(k: usize) -> bool
     (k < 1) | (k > MOST_BLOCKS)
 }
 
+// Line 17. The length is divided, since 64 times the count could wrap.
+fn marks_off(bytes: usize, count: usize) -> bool
+    ensures { λ r. ⌜ r ≡ line17 bytes count ⌝ }
+{
+    (bytes > marks::MOST_BYTES) | (bytes % marks::SIZE != 0) | (count > bytes / marks::SIZE)
+}
+
 // The first of lines 1, 2, 3, 4, 6 and 7 that holds for a piece; 0 where none does.
 pub fn absorb_line(state: State, width: u32, bytes: usize, count: usize) -> u32
     ensures { λ r. ⌜ r ≡ absorbNumber state width bytes count ⌝ }
@@ -126,6 +149,47 @@ pub fn squeeze_line(state: State, width: u32, k: usize, buffer: usize) -> u32
     let number = first(is_absorbing(state), WRONG_PHASE, number);
     let number = first(!is_sound(state), UNSOUND_STATE, number);
     first(!is_instance(state.instance), UNKNOWN_INSTANCE, number)
+}
+
+// The first of lines 1, 2 and 17 that holds for a state, and for a buffer of marks with `count` in use; where none does, what the lines after
+// them give.
+pub fn marks_line(state: State, bytes: usize, count: usize, rest: u32) -> u32
+    ensures { λ r. ⌜ r ≡ firstLine ((line1 (state .instance), 1) ∷ (line2 state, 2) ∷ (line17 bytes count, 17) ∷ (true, rest) ∷ []) ⌝ }
+{
+    let number = first(marks_off(bytes, count), WRONG_MARK_BUFFER, rest);
+    let number = first(!is_sound(state), UNSOUND_STATE, number);
+    first(!is_instance(state.instance), UNKNOWN_INSTANCE, number)
+}
+
+// The first of lines 1, 2, 17 and 19 that holds for a marking; 0 where none does.
+pub fn mark_line(state: State, bytes: usize, count: usize) -> u32
+    ensures { λ r. ⌜ r ≡ markNumber state bytes count ⌝ }
+{
+    let number = first(bytes / marks::SIZE <= count, NO_FREE_MARK, 0);
+    marks_line(state, bytes, count, number)
+}
+
+// The first of lines 1 and 2 that holds for a mark; 0 where none does.
+fn state_line(mark: &[u8]) -> u32
+    requires { ⌜ length (now mark) ≡ 64 ⌝ }
+    ensures { λ r. ⌜ r ≡ firstLine ((line1 (stateIn (now (mark .entry)) .instance), 1) ∷ (line2Mark (now (mark .entry)), 2) ∷ []) ⌝ }
+{
+    let state = marks::state_in(mark);
+    let sound = marks::ends_in_zeros(mark) & is_sound(state);
+    let number = first(!sound, UNSOUND_STATE, 0);
+    first(!is_instance(state.instance), UNKNOWN_INSTANCE, number)
+}
+
+// The first of line 18, and lines 1 and 2 of the last of the first `upto` marks, that holds; 0 where none does. There is no such mark where
+// `upto` is 0.
+pub fn found_line(buffer: &[u8], upto: usize) -> u32
+    requires { ⌜ 64 * upto ≤ length (now buffer) ⌝ }
+    ensures { λ r. ⌜ r ≡ foundNumber (now (buffer .entry)) upto ⌝ }
+{
+    if upto == 0 {
+        return NO_SUCH_MARK;
+    }
+    state_line(marks::mark_at(buffer, upto - 1))
 }
 
 // The first of lines 1, 4, 5, 6, 7 and 8 that holds for a whole digest; 0 where none does.

@@ -156,10 +156,19 @@ fn the_headers_values_are_those_of_rust() {
     assert_eq!(found, expected);
 }
 
-/// The refusals that no exported function answers: there is no state among the arguments, line 8 never holds, nothing is found by an index,
-/// and no blocks are asked for.
-const UNANSWERED: [&str; 6] =
-    ["UNSOUND_STATE", "WRONG_PHASE", "PADDED_LENGTH", "NO_SUCH_RECORD", "BLOCKS_OUT_OF_RANGE", "EXTRA_OVER_LIMIT"];
+/// The refusals that no exported function answers: there is no state among the arguments, line 8 never holds, nothing is found by an index
+/// or a name, no blocks are asked for, and no marks are lent.
+const UNANSWERED: [&str; 9] = [
+    "UNSOUND_STATE",
+    "WRONG_PHASE",
+    "PADDED_LENGTH",
+    "NO_SUCH_RECORD",
+    "BLOCKS_OUT_OF_RANGE",
+    "EXTRA_OVER_LIMIT",
+    "WRONG_MARK_BUFFER",
+    "NO_SUCH_MARK",
+    "NO_FREE_MARK",
+];
 
 /// The refusals of the Rattle sources that an exported function can answer.
 fn answered() -> Vec<Refusal> {

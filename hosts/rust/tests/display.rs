@@ -12,7 +12,7 @@ fn the_index_of_the_record() {
 
 #[test]
 fn a_number_without_a_name() {
-    for number in [0, 2, 3, 8, 13, 14, 15, 29, 256, u32::MAX] {
+    for number in [0, 2, 3, 8, 13, 14, 15, 17, 18, 19, 29, 256, u32::MAX] {
         let printed = Refused { number, place: None }.to_string();
         assert_eq!(printed, format!("refusal {number}: No function of this crate is known to answer this number."));
     }

@@ -1,0 +1,147 @@
+-- Marks read back: after an accepted marking a return to its name gives the state, a return to another name is answered as before, and what
+-- an accepted return gives is sound.
+use mathlib.Core.Bool.{true, false, not, _&&_, _||_, cond, and-eq-true-iff}
+use mathlib.Core.List.{List, [], _∷_}
+use mathlib.Core.Path.{_≡_, refl, sym, ap, ap₂, _∙_}
+use Prim.Native.Nat.{ℕ, zero, suc, _+_, _*_, _-_, _/_, _%_, _≤_, _<_}
+use native.Mathlib.Decide.{ℕ-discrete}
+use native.Mathlib.Nat.{suc-ne-zero, le-refl, le-step}
+use native.Mathlib.Numerals.{add-one}
+use native.Mathlib.Omega.{arith}
+use borrow.Author.Tests.{le-ltb, leb-false, ne-eqb, not-false}
+use lib.Dec.{ltb, eqb}
+use lib.ListN.{length}
+use Rattle.refusals.specs.Lines.{firstLine}
+use Rattle.refusals.specs.Outcome.{accepted, outcome}
+use Rattle.refusals.proofs.FirstLine.{none-holds, neither}
+use Rattle.refusals.proofs.Outcome.{accepted-left}
+use Rattle.quark.specs.Instance.{isInstance}
+use Rattle.permutation.specs.Lines.{line1}
+use Rattle.sponge.specs.declared.State.{State}
+use Rattle.sponge.specs.Bytes.{same}
+use Rattle.sponge.specs.Soundness.{sound}
+use Rattle.sponge.specs.Marks.{markSize, mostMarkBytes, markOf, nameIn, stateIn, endsInZeros, markAt, withMark, latest, found}
+use Rattle.sponge.specs.Outcomes.{Result, resultBy, line2, line2Mark, line17, line18, line19, markNumber, markBytes, recallNumber, recallResult}
+use Rattle.sponge.specs.ReadBack.{AfterMarking, SameState, OthersStay, RecallSound, ReadBack}
+use Rattle.sponge.proofs.Compared.{equal-same}
+use Rattle.sponge.proofs.MarkBytes.{latest-within}
+use Rattle.sponge.proofs.Passed.{mark-room}
+use Rattle.sponge.proofs.WrittenMarks.{in-four-bytes, name-back, length-mark, zeros-back, state-back, length-with-mark, mark-written, earlier-stay}
+
+-- ---- the search
+
+-- it reads no mark after the first `count`
+latest-same : (name b b′ : List ℕ) (count : ℕ) → ((j : ℕ) → j < count → markAt b′ j ≡ markAt b j) → latest name b′ count ≡ latest name b count
+unfolding latest
+latest-same name b b′ zero stays = refl
+latest-same name b b′ (suc j) stays =
+    ap₂ (λ (mark : List ℕ) (others : ℕ). cond (same (nameIn mark) name) (suc j) others) (stays j (le-refl (suc j)))
+    (latest-same name b b′ j (λ k h. stays k (le-step h)))
+
+-- ---- what a return answers by what the search finds, where the buffer is lawful
+
+abbrev recalled : State → (upto : ℕ) → List ℕ → Result
+recalled t upto mark =
+    resultBy
+    (firstLine
+    ((line1 (t .instance), 1) ∷ (line2 t, 2) ∷ (false, 17) ∷ (eqb upto 0, 18) ∷ (line1 (stateIn mark .instance), 1) ∷ (line2Mark mark, 2) ∷ []))
+    t (stateIn mark)
+
+recall-is : (t : State) (name b : List ℕ) (count : ℕ) → line17 (length b) count ≡ false → recallResult t name b count ≡ recalled t (latest name b count) (found name b count)
+unfolding recallResult recallNumber line18 firstLine
+recall-is t name b count e = rw e
+
+-- where nothing is found, no mark matters
+nothing-found : (t : State) → isInstance (t .instance) ≡ true → sound t ≡ true → (mark mark′ : List ℕ) → recalled t 0 mark ≡ recalled t 0 mark′
+unfolding resultBy firstLine line1 line2
+nothing-found t is-instance is-sound mark mark′ = rw (is-instance, is-sound)
+
+module _ (s t : State) (name buffer : List ℕ) (count : ℕ) (a : AfterMarking s t name buffer count) where
+  abbrev mark : List ℕ
+  mark = markOf name s
+
+  abbrev b : List ℕ
+  b = markBytes s name buffer count
+
+  -- lines 1, 2, 17 and 19 of the marking
+  passed : (isInstance (s .instance) ≡ true) × (sound s ≡ true) × (line17 (length buffer) count ≡ false) × (line19 (length buffer) count ≡ false)
+  unfolding markNumber line1 line2
+  passed =
+      let none = none-holds _ refl (a .accepted) in
+      (not-false (isInstance (s .instance)) (search none), not-false (sound s) (search none), search none, search none)
+
+  space : markSize * count + markSize ≤ length buffer
+  space = mark-room (length buffer) count (passed .3)
+
+  long : length mark ≡ markSize
+  long = length-mark name s (a .name-16) (a .bytes-32)
+
+  written : b ≡ withMark buffer count mark
+  unfolding markBytes
+  written = sym (accepted-left _ buffer _ (a .accepted))
+
+  -- line 17 does not hold with one more mark in use
+  lawful : line17 (length b) (count + 1) ≡ false
+  unfolding line17 line19
+  lawful =
+      let size : length b ≡ length buffer = ap length written ∙ length-with-mark buffer mark count space long in
+      let parts = neither (ltb mostMarkBytes (length buffer) || not (eqb (length buffer % markSize) 0)) (ltb (length buffer / markSize) count) (passed .2) in
+      rw (size, parts .0) (le-ltb (length buffer / markSize) (count + 1) (omega (arith, leb-false (length buffer / markSize) count (passed .3))))
+
+  mark-there : markAt b count ≡ mark
+  mark-there = ap (λ (l : List ℕ). markAt l count) written ∙ mark-written buffer mark count space long
+
+  others-there : (j : ℕ) → j < count → markAt b j ≡ markAt buffer j
+  others-there j h = ap (λ (l : List ℕ). markAt l j) written ∙ earlier-stay buffer mark count space long j h
+
+  -- the search in one more mark, for any name
+  latest-next : (other : List ℕ) → latest other b (count + 1) ≡ cond (same name other) (suc count) (latest other buffer count)
+  unfolding latest
+  latest-next other =
+      ap (latest other b) (add-one count)
+      ∙ ap₂ (λ (l : List ℕ) (others : ℕ). cond (same l other) (suc count) others) (ap nameIn mark-there ∙ name-back name s (a .name-16))
+      (latest-same other buffer b count others-there)
+
+  same-state : recallResult t name b (count + 1) ≡ record { outcome = accepted tt; state = s }
+  unfolding found resultBy firstLine line1 line2 line2Mark outcome
+  same-state =
+      let upto : latest name b (count + 1) ≡ suc count = latest-next name ∙ rw (equal-same name) in
+      let back : suc count - 1 ≡ count = omega arith in
+      let mark-is : found name b (count + 1) ≡ mark = ap (λ (n : ℕ). markAt b (n - 1)) upto ∙ ap (markAt b) back ∙ mark-there in
+      let state-is : stateIn mark ≡ s = state-back name s (a .name-16) (a .bytes-32) (in-four-bytes s (passed .1)) in
+      recall-is t name b (count + 1) lawful
+      ∙ ap₂ (recalled t) upto mark-is
+      ∙ rw (a .is-instance, a .is-sound, ne-eqb (suc count) 0 (suc-ne-zero count), state-is, zeros-back name s (a .name-16) (a .bytes-32), passed .0, passed .1)
+
+  others-stay : (other : List ℕ) → same name other ≡ false → recallResult t other b (count + 1) ≡ recallResult t other buffer count
+  unfolding found
+  others-stay other differs =
+      let upto = latest other buffer count in
+      let upto-is : latest other b (count + 1) ≡ upto = latest-next other ∙ rw differs in
+      recall-is t other b (count + 1) lawful
+      ∙ ap (λ (n : ℕ). recalled t n (markAt b (n - 1))) upto-is
+      ∙ by-found
+      ∙ sym (recall-is t other buffer count (passed .2))
+    where
+      -- nothing is found, or a mark before the new one
+      by-found : recalled t (latest other buffer count) (markAt b (latest other buffer count - 1))
+          ≡ recalled t (latest other buffer count) (markAt buffer (latest other buffer count - 1))
+      by-found =
+          elim (ℕ-discrete (latest other buffer count) 0) [
+            | yes none ↦ rw none (nothing-found t (a .is-instance) (a .is-sound) (markAt b (0 - 1)) (markAt buffer (0 - 1)))
+            | no some ↦ ap (recalled t (latest other buffer count)) (others-there (latest other buffer count - 1) (omega (arith, latest-within other buffer count)))
+          ]
+
+-- ---- an accepted return gives a sound state
+
+recall-sound : (s : State) (name buffer : List ℕ) (count : ℕ) → recallNumber s name buffer count ≡ 0 → sound (recallResult s name buffer count .state) ≡ true
+unfolding recallNumber recallResult resultBy line2Mark
+recall-sound s name buffer count e =
+    let none = none-holds _ refl e in
+    let mark = found name buffer count in
+    ap sound (sym (accepted-left _ s (stateIn mark) e))
+    ∙ and-eq-true-iff (endsInZeros mark) (sound (stateIn mark)) .0 (not-false (endsInZeros mark && sound (stateIn mark)) (search none)) .1
+
+pub read-back : ReadBack
+unfolding SameState OthersStay RecallSound
+read-back = record { same-state = same-state; others-stay = others-stay; recall-sound = recall-sound }
