@@ -7,6 +7,8 @@ pub mod digest;
 pub mod hexadecimal;
 pub mod journal;
 pub mod journals;
+pub mod marks;
+pub mod marks_text;
 mod permutation;
 pub mod pieces;
 pub mod pieces_text;

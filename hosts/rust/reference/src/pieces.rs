@@ -89,14 +89,21 @@ pub fn init(instance: u32) -> (u32, State) {
     (0, state)
 }
 
-/// The first of lines 1 to 4 that holds, for a call that takes states of one phase.
-fn first_lines(state: State, phase: u32, width: u32) -> u32 {
+/// The first of lines 1 and 2 that holds.
+pub fn state_line(state: State) -> u32 {
     match state {
         _ if !is_instance(state.instance) => 1,
         _ if !state.is_sound() => 2,
-        _ if state.phase != phase => 3,
-        _ if !is_width(state.instance, width) => 4,
         _ => 0,
+    }
+}
+
+/// The first of lines 1 to 4 that holds, for a call that takes states of one phase.
+fn first_lines(state: State, phase: u32, width: u32) -> u32 {
+    match state_line(state) {
+        0 if state.phase != phase => 3,
+        0 if !is_width(state.instance, width) => 4,
+        number => number,
     }
 }
 
