@@ -44,7 +44,7 @@ counted-refused count (suc number) some = omega arith
 
 -- ---- a refused call changes nothing
 
--- of what the list has
+-- neither state nor buffer nor count
 pub refused-leaves : (h : ListState) (call : ListCall) → (listNumber h call ≡ 0 → ⊥) → listAfter h call ≡ h
 unfolding listNumber listAfter markBytes markOutcome recallResult resultBy
 refused-leaves h (on-state call) refused =
@@ -55,7 +55,7 @@ refused-leaves h (mark name) refused =
 refused-leaves h (recall name) refused =
     ap (λ (s : State). record { state = s; buffer = h .buffer; count = h .count }) (sym (refused-left _ (h .state) _ refused))
 
--- of its messages
+-- nor the messages
 pub refused-saves-nothing : (i bytes : ℕ) (m : Messages) (call : ListCall) → (messagesNumber i bytes m call ≡ 0 → ⊥) → messagesAfter i bytes m call ≡ m
 unfolding messagesNumber messagesAfter
 refused-saves-nothing i bytes m (on-state call) refused =
@@ -92,7 +92,7 @@ module _ (i : ℕ) (is-instance : isInstance i ≡ true) where
   kept-stays (s ∷ earlier) b b′ stays k =
       (stays (length earlier) (le-refl (suc (length earlier))) ∙ k .0, k .1, kept-stays earlier b b′ (λ j h. stays j (le-step h)) (k .2))
 
-  -- ---- a return finds the latest that is saved under the name
+  -- ---- the search of a return: it finds nothing and nothing is saved under the name, or it finds the mark of the latest that is saved
 
   -- nothing is saved under it, and nothing is found
   record Missing (saved : Bool) (upto : ℕ) : Type 0 where
@@ -132,22 +132,24 @@ module _ (i : ℕ) (is-instance : isInstance i ≡ true) where
   -- ---- what a list has, as its messages determine it
 
   module _ (first : List ℕ) where
-    -- with a buffer
+    -- a buffer, which was `first` before the calls: the marks of the messages saved, and then the bytes that it had
+    pub record HasMarks (saved : List Saved) (b : List ℕ) : Type 0 where
+      pub long : length b ≡ length first
+      pub kept : Kept saved b
+      pub rest : drop (markSize * length saved) b ≡ drop (markSize * length saved) first
+
+    -- with a buffer, the rest follows
     abbrev standing : Messages → List ℕ → ListState
     standing m b = record { state = stateOf i (m .current); buffer = b; count = length (m .saved) }
 
+    -- the invariant of a list's calls
     pub record Stands (m : Messages) (h : ListState) : Type 0 where
       pub buffer : List ℕ
       pub is : h ≡ standing m buffer
-      pub long : length buffer ≡ length first
-      pub fits : markSize * length (m .saved) ≤ length first
-      pub rest : drop (markSize * length (m .saved)) buffer ≡ drop (markSize * length (m .saved)) first
+      pub has-marks : HasMarks (m .saved) buffer
       pub within : Admissible (m .current)
-      pub kept : Kept (m .saved) buffer
 
-    module _ (m : Messages) (b : List ℕ) (long : length b ≡ length first) (fits : markSize * length (m .saved) ≤ length first)
-        (rest : drop (markSize * length (m .saved)) b ≡ drop (markSize * length (m .saved)) first) (within : Admissible (m .current))
-        (kept : Kept (m .saved) b) where
+    module _ (m : Messages) (b : List ℕ) (has-marks : HasMarks (m .saved) b) (within : Admissible (m .current)) where
       abbrev h : ListState
       h = standing m b
 
@@ -155,7 +157,7 @@ module _ (i : ℕ) (is-instance : isInstance i ≡ true) where
       c = length (m .saved)
 
       stays : Stands m h
-      stays = record { buffer = b; is = refl; long = long; fits = fits; rest = rest; within = within; kept = kept }
+      stays = record { buffer = b; is = refl; has-marks = has-marks; within = within }
 
       is-sound : sound (stateOf i (m .current)) ≡ true
       is-sound = sound-message i (m .current) within
@@ -165,13 +167,13 @@ module _ (i : ℕ) (is-instance : isInstance i ≡ true) where
           → firstLine ((line1 (stateOf i (m .current) .instance), 1) ∷ (line2 (stateOf i (m .current)), 2) ∷ (line17 (length b) c, 17) ∷ more)
           ≡ firstLine ((line17 (length first) c, 17) ∷ more)
       unfolding firstLine line1 line2 stateOf stateWith
-      front more = rw (is-instance, is-sound, long)
+      front more = rw (is-instance, is-sound, has-marks .long)
 
       -- ---- a marking
 
       mark-answer : (name : Name) → listNumber h (mark name) ≡ messagesNumber i (length first) m (mark name)
       unfolding listNumber messagesNumber markNumber
-      mark-answer name = front ((line19 (length b) c, 19) ∷ []) ∙ rw long
+      mark-answer name = front ((line19 (length b) c, 19) ∷ []) ∙ rw (has-marks .long)
 
       marked : (name : Name) → messagesNumber i (length first) m (mark name) ≡ 0
           → Stands (record { current = m .current; saved = record { name = name; message = m .current } ∷ m .saved })
@@ -180,22 +182,23 @@ module _ (i : ℕ) (is-instance : isInstance i ≡ true) where
       marked name accepted =
           let none = none-holds _ refl accepted in
           let space : markSize * c + markSize ≤ length first = mark-room (length first) c (search none) in
-          let space-b : markSize * c + markSize ≤ length b = omega arith in
+          let space-b : markSize * c + markSize ≤ length b = omega (arith, has-marks .long) in
           let size = long-mark name (m .current) in
           let new = markedAs name (m .current) in
           let next : markSize * suc c ≡ markSize * c + markSize = omega arith in
           record {
             buffer = withMark b c new;
             is = refl;
-            long = length-with-mark b new c space-b size ∙ long;
-            fits = omega arith;
-            rest = rw next
-                (rest-stays b new c space-b size
-                ∙ sym (drop-drop markSize (markSize * c) b)
-                ∙ ap (drop markSize) rest
-                ∙ drop-drop markSize (markSize * c) first);
+            has-marks = record {
+              long = length-with-mark b new c space-b size ∙ has-marks .long;
+              kept = (mark-written b new c space-b size, within, kept-stays (m .saved) b (withMark b c new) (earlier-stay b new c space-b size) (has-marks .kept));
+              rest = rw next
+                  (rest-stays b new c space-b size
+                  ∙ sym (drop-drop markSize (markSize * c) b)
+                  ∙ ap (drop markSize) (has-marks .rest)
+                  ∙ drop-drop markSize (markSize * c) first);
+            };
             within = within;
-            kept = (mark-written b new c space-b size, within, kept-stays (m .saved) b (withMark b c new) (earlier-stay b new c space-b size) kept);
           }
 
       after-mark : (name : Name) → messagesNumber i (length first) m (mark name) ≡ 0
@@ -240,7 +243,7 @@ module _ (i : ℕ) (is-instance : isInstance i ≡ true) where
             front later ∙ rw (p .some-saved, p .some-found, found-state p, found-zeros p, is-instance, sound-message i back (p .within))
 
         looked-up : isMissing ⊎ isPresent
-        looked-up = look-up name (m .saved) b (m .current) kept
+        looked-up = look-up name (m .saved) b (m .current) (has-marks .kept)
 
         recall-answer : listNumber h (recall name) ≡ messagesNumber i (length first) m (recall name)
         recall-answer = recall-answer-by looked-up
@@ -260,11 +263,8 @@ module _ (i : ℕ) (is-instance : isInstance i ≡ true) where
               buffer = b;
               is = ap (λ (s : State). record { state = s; buffer = b; count = c })
                   (sym (accepted-left _ (stateOf i (m .current)) _ (recall-answer ∙ accepted)) ∙ found-state p);
-              long = long;
-              fits = fits;
-              rest = rest;
+              has-marks = has-marks;
               within = p .within;
-              kept = kept;
             })
 
       -- ---- any call
@@ -280,11 +280,8 @@ module _ (i : ℕ) (is-instance : isInstance i ≡ true) where
       accepted-next (on-state call) accepted = record {
         buffer = b;
         is = ap (λ (s : State). record { state = s; buffer = b; count = c }) (after-call i is-instance (m .current) within call);
-        long = long;
-        fits = fits;
-        rest = rest;
+        has-marks = has-marks;
         within = admissible-after i is-instance (m .current) within call;
-        kept = kept;
       }
       accepted-next (mark name) accepted = after-mark name accepted
       accepted-next (recall name) accepted = after-recall name (looked-up name) accepted
@@ -301,12 +298,12 @@ module _ (i : ℕ) (is-instance : isInstance i ≡ true) where
     module _ (m : Messages) (h : ListState) (s : Stands m h) where
       pub answers : (call : ListCall) → listNumber h call ≡ messagesNumber i (length first) m call
       answers call =
-          ap (λ (x : ListState). listNumber x call) (s .is) ∙ answer m (s .buffer) (s .long) (s .fits) (s .rest) (s .within) (s .kept) call
+          ap (λ (x : ListState). listNumber x call) (s .is) ∙ answer m (s .buffer) (s .has-marks) (s .within) call
 
       stands-next : (call : ListCall) → Stands (messagesAfter i (length first) m call) (listAfter h call)
       stands-next call =
           subst (λ (x : ListState). Stands (messagesAfter i (length first) m call) (listAfter x call)) (sym (s .is))
-          (next m (s .buffer) (s .long) (s .fits) (s .rest) (s .within) (s .kept) call)
+          (next m (s .buffer) (s .has-marks) (s .within) call)
 
     stands-from : (m : Messages) (h : ListState) (calls : List ListCall) → Stands m h → Stands (messagesFrom i (length first) m calls) (runFrom h calls)
     unfolding messagesFrom runFrom
@@ -322,9 +319,6 @@ module _ (i : ℕ) (is-instance : isInstance i ≡ true) where
       (record {
         buffer = list .buffer;
         is = ap (λ (s : State). record { state = s; buffer = list .buffer; count = 0 }) (init-empty i is-instance);
-        long = refl;
-        fits = omega arith;
-        rest = refl;
+        has-marks = record { long = refl; kept = tt; rest = refl };
         within = admissible-empty;
-        kept = tt;
       })

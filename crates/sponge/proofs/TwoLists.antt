@@ -68,8 +68,8 @@ module _ (i : ℕ) (is-instance : isInstance i ≡ true) where
         record {
           state-follows = subst (Follows i (messageOf i list)) (sym (run-state .0)) (follows-message i (messageOf i list) (s .within));
           count-is = ap (λ (h : ListState). h .count) (s .is);
-          marks-follow = subst (λ (b : List ℕ). MarksFollow i b saved) (sym buffer) (marks-follow (s .buffer) saved (s .kept));
-          rest-stays = ap (drop (markSize * length saved)) buffer ∙ s .rest;
+          marks-follow = subst (λ (b : List ℕ). MarksFollow i b saved) (sym buffer) (marks-follow (s .buffer) saved (s .has-marks .kept));
+          rest-stays = ap (drop (markSize * length saved)) buffer ∙ s .has-marks .rest;
         }
 
     each-answer : (call : ListCall) → listNumber (run i list) call ≡ messagesNumber i (length (list .buffer)) (messagesOf i list) call
