@@ -9,7 +9,8 @@ use refusals::number_of;
 use sponge::Marked;
 use sponge::State;
 
-// A mark after the first `count`: the new count, or the number. The count after it comes back, which is the old one where it is refused.
+// A marking after the first `count` marks: the new count, or the refusal's number. The count after it comes back, the old one where it is
+// refused.
 pub fn write_mark(state: State, name: [u8; 16], buffer: &mut [u8], count: usize) -> usize {
     let marked = sponge::mark(state, name, buffer, count);
     write_number(b"mark in ", buffer.len() as u64);

@@ -1,14 +1,14 @@
-// Lengths of the buffer, counts, and forged states: a mark, and a return after it.
+// Lengths of the buffer, counts, and forged states: a marking, and a return after it.
 ghost use Prim.Native.Nat.{_≤_};
 use crate::calls::write_mark;
 use crate::calls::write_recall;
 use crate::states::forged;
-use crate::states::preamble;
+use crate::states::mark_name;
 use crate::text::write;
 use crate::text::write_number;
 use sponge::State;
 
-// The index of the first byte of a fresh buffer that was changed, or the length where none was.
+// The index of the first byte that is not 165, or the length where there is none.
 fn first_changed(bytes: &[u8]) -> usize {
     let mut i: usize = 0;
     while i < bytes.len() {
@@ -20,12 +20,12 @@ fn first_changed(bytes: &[u8]) -> usize {
     i
 }
 
-// A mark in a fresh buffer, where it changed the buffer, and a return.
+// A marking in a buffer of bytes 165, the index of the first byte that it changed, and a return.
 fn write_calls(state: State, buffer: &mut [u8], count: usize) {
-    let next = write_mark(state, preamble(), buffer, count);
+    let next = write_mark(state, mark_name(), buffer, count);
     write_number(b", changed from ", first_changed(buffer) as u64);
     write(b"\n");
-    write_recall(state, preamble(), buffer, next);
+    write_recall(state, mark_name(), buffer, next);
 }
 
 // The calls with a buffer of some length.
@@ -43,7 +43,8 @@ fn write_sound(length: usize, count: usize)
     write_row(forged(1, 1, 20, 20, 1), length, count);
 }
 
-// Line 17, and lines 18 and 19 where it does not hold. The last two counts come to 0 and to 999 where their bytes are cut to 64 bits.
+// Line 17, and lines 18 and 19 where it does not hold. 64 times the last two counts wraps in 64
+// bits, to the bytes of 0 and of 999 marks.
 pub fn write_lengths() {
     write_sound(0, 0);
     write_sound(0, 1);

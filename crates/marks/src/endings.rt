@@ -4,13 +4,13 @@ use crate::calls::write_finish;
 use crate::calls::write_mark;
 use crate::calls::write_recall;
 use crate::calls::write_whole;
-use crate::states::preamble;
+use crate::states::mark_name;
 use crate::text::write;
 use crate::text::write_bytes;
 use crate::text::write_number;
 use sponge::State;
 
-// Back to the preamble's mark, an ending, and the digest; below it that of the whole message, which has 44 bits more. The closed state comes
+// Back to the preamble's mark, an ending, and the digest; below it that of the whole message, whose first 44 bits are the preamble. The closed state comes
 // back.
 fn write_ending(
     state: State,
@@ -20,7 +20,7 @@ fn write_ending(
     message: &[u8],
     bits: usize,
 ) -> State {
-    let back = write_recall(state, preamble(), buffer, 1);
+    let back = write_recall(state, mark_name(), buffer, 1);
     let reply = sponge::absorb(back, 8, ending, count);
     let next = reply.state;
     let closed = write_finish(next);
@@ -39,7 +39,7 @@ fn write_endings(open: State, buffer: &[u8]) -> State {
 
 // The preamble is marked.
 fn write_open(open: State, buffer: &mut [u8]) -> State {
-    write_mark(open, preamble(), buffer, 0);
+    write_mark(open, mark_name(), buffer, 0);
     write_endings(open, buffer)
 }
 
@@ -49,15 +49,15 @@ fn write_found(five: State, buffer: &[u8]) {
     write_bytes(buffer);
     write(b"\n");
     let ten = write_blocks(five);
-    let back = write_recall(ten, preamble(), buffer, 2);
+    let back = write_recall(ten, mark_name(), buffer, 2);
     let again = write_blocks(back);
-    write_recall(again, preamble(), buffer, 1);
+    write_recall(again, mark_name(), buffer, 1);
 }
 
 // A closed state is marked after five blocks, under the preamble's name.
 fn write_closed(closed: State, buffer: &mut [u8]) {
     let five = write_blocks(closed);
-    write_mark(five, preamble(), buffer, 1);
+    write_mark(five, mark_name(), buffer, 1);
     write_found(five, buffer);
 }
 

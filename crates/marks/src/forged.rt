@@ -2,15 +2,15 @@
 ghost use Prim.Native.Nat.{_<_};
 use crate::calls::write_recall;
 use crate::states::forged;
-use crate::states::preamble;
+use crate::states::mark_name;
 use crate::text::write;
 use crate::text::write_number;
 
 // Two marks of a name: an open state of U, and a closed one that gave out one extra block.
 fn two_marks() -> [u8; 128] {
     let mut marks: [u8; 128] = [165; 128];
-    sponge::mark(forged(1, 0, 20, 2, 0), preamble(), &mut marks, 0);
-    sponge::mark(forged(1, 1, 20, 20, 1), preamble(), &mut marks, 1);
+    sponge::mark(forged(1, 0, 20, 2, 0), mark_name(), &mut marks, 0);
+    sponge::mark(forged(1, 1, 20, 20, 1), mark_name(), &mut marks, 1);
     marks
 }
 
@@ -33,7 +33,7 @@ fn write_forged(at: usize, value: u8, last: u8)
     write_number(b" is ", value as u64);
     write_number(b", byte 63 is ", last as u64);
     write(b"\n");
-    write_recall(forged(3, 1, 100, 11, 0), preamble(), &marks, 2);
+    write_recall(forged(3, 1, 100, 11, 0), mark_name(), &marks, 2);
 }
 
 // Each field of a mark: name, instance, phase, total, runs, extra blocks, bits, the bytes after them, and the last two. The third row has the

@@ -41,6 +41,6 @@ pub fn block_bytes(instance: u32) -> usize
 }
 
 // The name of every mark.
-pub fn preamble() -> [u8; 16] {
+pub fn mark_name() -> [u8; 16] {
     *b"after a preamble"
 }

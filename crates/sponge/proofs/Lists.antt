@@ -23,7 +23,7 @@ use Rattle.permutation.specs.Lines.{line1}
 use Rattle.sponge.specs.declared.State.{State}
 use Rattle.sponge.specs.Bytes.{same}
 use Rattle.sponge.specs.Soundness.{sound, stateWith}
-use Rattle.sponge.specs.Marks.{markSize, markOf, nameIn, stateIn, endsInZeros, markAt, withMark, latest, found}
+use Rattle.sponge.specs.Marks.{markSize, markOf, nameIn, stateIn, endsInZeros, markAt, withMark, upToLatest, found}
 use Rattle.sponge.specs.Outcomes.{line2, line2Mark, line17, line18, line19, resultBy, markNumber, markOutcome, markBytes, recallNumber, recallResult}
 use Rattle.sponge.specs.Calls.{Message}
 use Rattle.sponge.specs.Lists.{Name, ListCall, on-state, mark, recall, CallList, ListState, listNumber, countAfter, listAfter, runFrom, run, Saved, Messages, isSaved, latestSaved, messagesNumber, messagesAfter, messagesFrom, messagesOf}
@@ -81,16 +81,16 @@ module _ (i : ℕ) (is-instance : isInstance i ≡ true) where
 
   -- ---- the marks in a buffer are those of the messages saved, the latest last
 
-  unfoldable pub Kept : List Saved → List ℕ → Type 0
-  Kept [] buffer = Unit {0}
-  Kept (s ∷ earlier) buffer =
-      (markAt buffer (length earlier) ≡ markedAs (s .name) (s .message)) × Admissible (s .message) × Kept earlier buffer
+  unfoldable pub MarksOfSaved : List Saved → List ℕ → Type 0
+  MarksOfSaved [] buffer = Unit {0}
+  MarksOfSaved (s ∷ earlier) buffer =
+      (markAt buffer (length earlier) ≡ markedAs (s .name) (s .message)) × Admissible (s .message) × MarksOfSaved earlier buffer
 
-  kept-stays : (saved : List Saved) (b b′ : List ℕ) → ((j : ℕ) → j < length saved → markAt b′ j ≡ markAt b j) → Kept saved b → Kept saved b′
-  unfolding Kept
-  kept-stays [] b b′ stays k = tt
-  kept-stays (s ∷ earlier) b b′ stays k =
-      (stays (length earlier) (le-refl (suc (length earlier))) ∙ k .0, k .1, kept-stays earlier b b′ (λ j h. stays j (le-step h)) (k .2))
+  marks-stay : (saved : List Saved) (b b′ : List ℕ) → ((j : ℕ) → j < length saved → markAt b′ j ≡ markAt b j) → MarksOfSaved saved b → MarksOfSaved saved b′
+  unfolding MarksOfSaved
+  marks-stay [] b b′ stays k = tt
+  marks-stay (s ∷ earlier) b b′ stays k =
+      (stays (length earlier) (le-refl (suc (length earlier))) ∙ k .0, k .1, marks-stay earlier b b′ (λ j h. stays j (le-step h)) (k .2))
 
   -- ---- the search of a return: it finds nothing and nothing is saved under the name, or it finds the mark of the latest that is saved
 
@@ -107,10 +107,10 @@ module _ (i : ℕ) (is-instance : isInstance i ≡ true) where
     mark-is : markAt b (upto - 1) ≡ markedAs name m
     within : Admissible m
 
-  look-up : (name : Name) (saved : List Saved) (b : List ℕ) (other : Message) → Kept saved b
-      → Missing (isSaved name saved) (latest (name .bytes) b (length saved))
-      ⊎ Present (isSaved name saved) (latest (name .bytes) b (length saved)) b (latestSaved name saved other)
-  unfolding isSaved latest latestSaved Kept
+  look-up : (name : Name) (saved : List Saved) (b : List ℕ) (other : Message) → MarksOfSaved saved b
+      → Missing (isSaved name saved) (upToLatest (name .bytes) b (length saved))
+      ⊎ Present (isSaved name saved) (upToLatest (name .bytes) b (length saved)) b (latestSaved name saved other)
+  unfolding isSaved upToLatest latestSaved MarksOfSaved
   look-up name [] b other k = inl (record { none-saved = refl; none-found = refl })
   look-up name (s ∷ earlier) b other k =
       rw (ap nameIn (k .0) ∙ name-back (s .name .bytes) (stateOf i (s .message)) (s .name .sixteen))
@@ -135,34 +135,34 @@ module _ (i : ℕ) (is-instance : isInstance i ≡ true) where
     -- a buffer, which was `first` before the calls: the marks of the messages saved, and then the bytes that it had
     pub record HasMarks (saved : List Saved) (b : List ℕ) : Type 0 where
       pub long : length b ≡ length first
-      pub kept : Kept saved b
+      pub marks : MarksOfSaved saved b
       pub rest : drop (markSize * length saved) b ≡ drop (markSize * length saved) first
 
-    -- with a buffer, the rest follows
-    abbrev standing : Messages → List ℕ → ListState
-    standing m b = record { state = stateOf i (m .current); buffer = b; count = length (m .saved) }
+    -- the state and the count that the messages determine, with a buffer
+    abbrev determined : Messages → List ℕ → ListState
+    determined m b = record { state = stateOf i (m .current); buffer = b; count = length (m .saved) }
 
     -- the invariant of a list's calls
-    pub record Stands (m : Messages) (h : ListState) : Type 0 where
+    pub record Invariant (m : Messages) (h : ListState) : Type 0 where
       pub buffer : List ℕ
-      pub is : h ≡ standing m buffer
+      pub is : h ≡ determined m buffer
       pub has-marks : HasMarks (m .saved) buffer
       pub within : Admissible (m .current)
 
     module _ (m : Messages) (b : List ℕ) (has-marks : HasMarks (m .saved) b) (within : Admissible (m .current)) where
       abbrev h : ListState
-      h = standing m b
+      h = determined m b
 
       abbrev c : ℕ
       c = length (m .saved)
 
-      stays : Stands m h
+      stays : Invariant m h
       stays = record { buffer = b; is = refl; has-marks = has-marks; within = within }
 
       is-sound : sound (stateOf i (m .current)) ≡ true
       is-sound = sound-message i (m .current) within
 
-      -- the lines of the state and of the buffer
+      -- lines 1 and 2 do not hold for a message's state, so line 17 comes first
       front : (more : List (Bool × ℕ))
           → firstLine ((line1 (stateOf i (m .current) .instance), 1) ∷ (line2 (stateOf i (m .current)), 2) ∷ (line17 (length b) c, 17) ∷ more)
           ≡ firstLine ((line17 (length first) c, 17) ∷ more)
@@ -176,9 +176,9 @@ module _ (i : ℕ) (is-instance : isInstance i ≡ true) where
       mark-answer name = front ((line19 (length b) c, 19) ∷ []) ∙ rw (has-marks .long)
 
       marked : (name : Name) → messagesNumber i (length first) m (mark name) ≡ 0
-          → Stands (record { current = m .current; saved = record { name = name; message = m .current } ∷ m .saved })
+          → Invariant (record { current = m .current; saved = record { name = name; message = m .current } ∷ m .saved })
           (record { state = stateOf i (m .current); buffer = withMark b c (markedAs name (m .current)); count = suc c })
-      unfolding messagesNumber Kept
+      unfolding messagesNumber MarksOfSaved
       marked name accepted =
           let none = none-holds _ refl accepted in
           let space : markSize * c + markSize ≤ length first = mark-room (length first) c (search none) in
@@ -191,7 +191,7 @@ module _ (i : ℕ) (is-instance : isInstance i ≡ true) where
             is = refl;
             has-marks = record {
               long = length-with-mark b new c space-b size ∙ has-marks .long;
-              kept = (mark-written b new c space-b size, within, kept-stays (m .saved) b (withMark b c new) (earlier-stay b new c space-b size) (has-marks .kept));
+              marks = (mark-written b new c space-b size, within, marks-stay (m .saved) b (withMark b c new) (earlier-stay b new c space-b size) (has-marks .marks));
               rest = rw next
                   (rest-stays b new c space-b size
                   ∙ sym (drop-drop markSize (markSize * c) b)
@@ -202,12 +202,12 @@ module _ (i : ℕ) (is-instance : isInstance i ≡ true) where
           }
 
       after-mark : (name : Name) → messagesNumber i (length first) m (mark name) ≡ 0
-          → Stands (messagesAfter i (length first) m (mark name)) (listAfter h (mark name))
+          → Invariant (messagesAfter i (length first) m (mark name)) (listAfter h (mark name))
       unfolding messagesAfter listAfter markBytes markOutcome listNumber
       after-mark name accepted =
           let e = mark-answer name ∙ accepted in
-          subst (λ (x : Messages). Stands x (listAfter h (mark name))) (accepted-left _ m _ accepted)
-          (subst (Stands (record { current = m .current; saved = record { name = name; message = m .current } ∷ m .saved }))
+          subst (λ (x : Messages). Invariant x (listAfter h (mark name))) (accepted-left _ m _ accepted)
+          (subst (Invariant (record { current = m .current; saved = record { name = name; message = m .current } ∷ m .saved }))
           (ap₂ (λ (l : List ℕ) (n : ℕ). record { state = stateOf i (m .current); buffer = l; count = n }) (accepted-left _ b _ e) (sym (counted-accepted c _ e)))
           (marked name accepted))
 
@@ -215,13 +215,13 @@ module _ (i : ℕ) (is-instance : isInstance i ≡ true) where
 
       module _ (name : Name) where
         abbrev isMissing : Type 0
-        isMissing = Missing (isSaved name (m .saved)) (latest (name .bytes) b c)
+        isMissing = Missing (isSaved name (m .saved)) (upToLatest (name .bytes) b c)
 
         abbrev back : Message
         back = latestSaved name (m .saved) (m .current)
 
         abbrev isPresent : Type 0
-        isPresent = Present (isSaved name (m .saved)) (latest (name .bytes) b c) b back
+        isPresent = Present (isSaved name (m .saved)) (upToLatest (name .bytes) b c) b back
 
         found-state : (p : isPresent) → stateIn (found (name .bytes) b c) ≡ stateOf i back
         unfolding found
@@ -243,7 +243,7 @@ module _ (i : ℕ) (is-instance : isInstance i ≡ true) where
             front later ∙ rw (p .some-saved, p .some-found, found-state p, found-zeros p, is-instance, sound-message i back (p .within))
 
         looked-up : isMissing ⊎ isPresent
-        looked-up = look-up name (m .saved) b (m .current) (has-marks .kept)
+        looked-up = look-up name (m .saved) b (m .current) (has-marks .marks)
 
         recall-answer : listNumber h (recall name) ≡ messagesNumber i (length first) m (recall name)
         recall-answer = recall-answer-by looked-up
@@ -254,11 +254,11 @@ module _ (i : ℕ) (is-instance : isInstance i ≡ true) where
         missing-refused p accepted = let none = none-holds _ refl accepted in false≢true (sym (p .none-saved) ∙ not-false (isSaved name (m .saved)) (search none))
 
         after-recall : isMissing ⊎ isPresent → messagesNumber i (length first) m (recall name) ≡ 0
-            → Stands (messagesAfter i (length first) m (recall name)) (listAfter h (recall name))
+            → Invariant (messagesAfter i (length first) m (recall name)) (listAfter h (recall name))
         unfolding messagesAfter listAfter recallResult resultBy listNumber
         after-recall (inl p) accepted = absurd (missing-refused p accepted)
         after-recall (inr p) accepted =
-            subst (λ (x : Messages). Stands x (listAfter h (recall name))) (accepted-left _ m _ accepted)
+            subst (λ (x : Messages). Invariant x (listAfter h (recall name))) (accepted-left _ m _ accepted)
             (record {
               buffer = b;
               is = ap (λ (s : State). record { state = s; buffer = b; count = c })
@@ -275,7 +275,7 @@ module _ (i : ℕ) (is-instance : isInstance i ≡ true) where
       answer (mark name) = mark-answer name
       answer (recall name) = recall-answer name
 
-      accepted-next : (call : ListCall) → messagesNumber i (length first) m call ≡ 0 → Stands (messagesAfter i (length first) m call) (listAfter h call)
+      accepted-next : (call : ListCall) → messagesNumber i (length first) m call ≡ 0 → Invariant (messagesAfter i (length first) m call) (listAfter h call)
       unfolding messagesAfter listAfter
       accepted-next (on-state call) accepted = record {
         buffer = b;
@@ -286,39 +286,39 @@ module _ (i : ℕ) (is-instance : isInstance i ≡ true) where
       accepted-next (mark name) accepted = after-mark name accepted
       accepted-next (recall name) accepted = after-recall name (looked-up name) accepted
 
-      next : (call : ListCall) → Stands (messagesAfter i (length first) m call) (listAfter h call)
+      next : (call : ListCall) → Invariant (messagesAfter i (length first) m call) (listAfter h call)
       next call =
           elim (ℕ-discrete (messagesNumber i (length first) m call) 0) [
             | yes accepted ↦ accepted-next call accepted
             | no refused ↦
-                subst (λ (x : Messages). Stands x (listAfter h call)) (sym (refused-saves-nothing i (length first) m call refused))
-                (subst (Stands m) (sym (refused-leaves h call (λ z. refused (sym (answer call) ∙ z)))) stays)
+                subst (λ (x : Messages). Invariant x (listAfter h call)) (sym (refused-saves-nothing i (length first) m call refused))
+                (subst (Invariant m) (sym (refused-leaves h call (λ z. refused (sym (answer call) ∙ z)))) stays)
           ]
 
-    module _ (m : Messages) (h : ListState) (s : Stands m h) where
+    module _ (m : Messages) (h : ListState) (s : Invariant m h) where
       pub answers : (call : ListCall) → listNumber h call ≡ messagesNumber i (length first) m call
       answers call =
           ap (λ (x : ListState). listNumber x call) (s .is) ∙ answer m (s .buffer) (s .has-marks) (s .within) call
 
-      stands-next : (call : ListCall) → Stands (messagesAfter i (length first) m call) (listAfter h call)
-      stands-next call =
-          subst (λ (x : ListState). Stands (messagesAfter i (length first) m call) (listAfter x call)) (sym (s .is))
+      invariant-next : (call : ListCall) → Invariant (messagesAfter i (length first) m call) (listAfter h call)
+      invariant-next call =
+          subst (λ (x : ListState). Invariant (messagesAfter i (length first) m call) (listAfter x call)) (sym (s .is))
           (next m (s .buffer) (s .has-marks) (s .within) call)
 
-    stands-from : (m : Messages) (h : ListState) (calls : List ListCall) → Stands m h → Stands (messagesFrom i (length first) m calls) (runFrom h calls)
+    invariant-from : (m : Messages) (h : ListState) (calls : List ListCall) → Invariant m h → Invariant (messagesFrom i (length first) m calls) (runFrom h calls)
     unfolding messagesFrom runFrom
-    stands-from m h [] s = s
-    stands-from m h (call ∷ calls) s = stands-from (messagesAfter i (length first) m call) (listAfter h call) calls (stands-next m h s call)
+    invariant-from m h [] s = s
+    invariant-from m h (call ∷ calls) s = invariant-from (messagesAfter i (length first) m call) (listAfter h call) calls (invariant-next m h s call)
 
   -- ---- a whole list
 
-  pub stands : (list : CallList) → Stands (list .buffer) (messagesOf i list) (run i list)
-  unfolding messagesOf run Kept
-  stands list =
-      stands-from (list .buffer) _ _ (list .calls)
+  pub invariant : (list : CallList) → Invariant (list .buffer) (messagesOf i list) (run i list)
+  unfolding messagesOf run MarksOfSaved
+  invariant list =
+      invariant-from (list .buffer) _ _ (list .calls)
       (record {
         buffer = list .buffer;
         is = ap (λ (s : State). record { state = s; buffer = list .buffer; count = 0 }) (init-empty i is-instance);
-        has-marks = record { long = refl; kept = tt; rest = refl };
+        has-marks = record { long = refl; marks = tt; rest = refl };
         within = admissible-empty;
       })

@@ -8,12 +8,12 @@ use lib.ListN.{length, getD, set, take, drop, length-append, length-drop}
 use lib.Seq.{paste, take-length, take-all, take-paste, drop-paste, drop-drop, getD-take, getD-drop, length-take-le}
 use Rattle.sponge.specs.declared.State.{State}
 use Rattle.sponge.specs.Bytes.{same}
-use Rattle.sponge.specs.Marks.{markFields, markOf, nameIn, stateIn, markAt, withMark, latest, found}
+use Rattle.sponge.specs.Marks.{markFields, markOf, nameIn, stateIn, markAt, withMark, upToLatest, found}
 use Rattle.sponge.proofs.Compared.{copied-next}
 
 -- ---- writing
 
--- the buffer b is d with the n bytes s from an offset on
+-- b is the buffer d after the n bytes s are written from an offset on
 pub record Written (d : List ℕ) (at : ℕ) (s : List ℕ) (n : ℕ) (b : List ℕ) : Type 0 where
   pub size : length s ≡ n
   pub bytes : b ≡ paste d at s (length s)
@@ -44,7 +44,7 @@ written-after {d} {at} {s} {n} w t {b′} {m} e size room =
     let sum : length (s ++ t) ≡ n + m = omega (arith, length-append s t) in
     record { size = sum; bytes = e ∙ ap₂ (λ (l : List ℕ) (i : ℕ). paste l i t (length t)) (w .bytes) end ∙ paste-after d at s t (omega arith) }
 
--- all parts of a mark that are written where mark j stands make it mark j
+-- where the parts of a mark are written one after another from 64 j on, it is mark j of the buffer
 pub parts-are-mark : (buffer : List ℕ) (j : ℕ) (name fields : List ℕ) (s : State) {b : List ℕ} → fields ≡ markFields s
     → Written buffer (64 * j) (name ++ fields ++ s .bits ++ (0 ∷ 0 ∷ [])) 64 b → b ≡ withMark buffer j (markOf name s)
 unfolding withMark markOf
@@ -90,29 +90,29 @@ bits-all mark to j all size e = sym (take-all j to (omega arith)) ∙ e ∙ ap (
 
 -- ---- the latest mark with a name
 
--- of j + 1 marks the last is it, or those before the last decide
+-- of the first j + 1 marks it is the last, if that has the name; else it is the latest of the first j
 module _ (name buffer mark : List ℕ) (j k : ℕ) (e : mark ≡ markAt buffer j) (last : k ≡ j + 1) where
-  by-last : latest name buffer k ≡ cond (same (nameIn mark) name) (j + 1) (latest name buffer j)
-  unfolding latest
+  by-last : upToLatest name buffer k ≡ cond (same (nameIn mark) name) (j + 1) (upToLatest name buffer j)
+  unfolding upToLatest
   by-last =
       let n : k ≡ suc j = omega arith in
       let m : j + 1 ≡ suc j = omega arith in
       rw (e, n, m)
 
-  pub last-named : same (nameIn mark) name ≡ true → latest name buffer k ≡ j + 1
+  pub last-named : same (nameIn mark) name ≡ true → upToLatest name buffer k ≡ j + 1
   last-named named = by-last ∙ rw named
 
-  pub last-not-named : {i : ℕ} → same (nameIn mark) name ≡ false → i ≡ j → latest name buffer k ≡ latest name buffer i
-  last-not-named other e′ = by-last ∙ rw other (ap (latest name buffer) (sym e′))
+  pub last-not-named : {i : ℕ} → same (nameIn mark) name ≡ false → i ≡ j → upToLatest name buffer k ≡ upToLatest name buffer i
+  last-not-named other e′ = by-last ∙ rw other (ap (upToLatest name buffer) (sym e′))
 
--- of no marks none is it
-pub none-left : (name buffer : List ℕ) (k : ℕ) → k ≡ 0 → latest name buffer k ≡ 0
-unfolding latest
-none-left name buffer k none = ap (latest name buffer) none
+-- among no marks none has the name
+pub none-left : (name buffer : List ℕ) (k : ℕ) → k ≡ 0 → upToLatest name buffer k ≡ 0
+unfolding upToLatest
+none-left name buffer k none = ap (upToLatest name buffer) none
 
--- it is among the marks
-pub latest-within : (name buffer : List ℕ) (k : ℕ) → latest name buffer k ≤ k
-unfolding latest
+-- it is among the first k
+pub latest-within : (name buffer : List ℕ) (k : ℕ) → upToLatest name buffer k ≤ k
+unfolding upToLatest
 latest-within name buffer zero = omega arith
 latest-within name buffer (suc j) = by-test (same (nameIn (markAt buffer j)) name) (latest-within name buffer j)
   where
@@ -121,6 +121,6 @@ latest-within name buffer (suc j) = by-test (same (nameIn (markAt buffer j)) nam
     by-test false h = omega arith
 
 -- the mark that is found is the last up to it
-pub found-at : (name buffer : List ℕ) (k upto : ℕ) → upto ≡ latest name buffer k → markAt buffer (upto - 1) ≡ found name buffer k
+pub found-at : (name buffer : List ℕ) (k upto : ℕ) → upto ≡ upToLatest name buffer k → markAt buffer (upto - 1) ≡ found name buffer k
 unfolding found
 found-at name buffer k upto e = ap (λ (n : ℕ). markAt buffer (n - 1)) e

@@ -15,7 +15,7 @@ use Rattle.quark.specs.Instance.{isInstance, isWidth, stateBytes}
 use Rattle.permutation.specs.Lines.{line1, line4}
 use Rattle.sponge.specs.declared.State.{State}
 use Rattle.sponge.specs.Soundness.{limit, extraLimit, mostBlocks, sound}
-use Rattle.sponge.specs.Marks.{markSize, mostMarkBytes, stateIn, markAt, latest, found}
+use Rattle.sponge.specs.Marks.{markSize, mostMarkBytes, stateIn, markAt, upToLatest, found}
 use Rattle.sponge.specs.Outcomes.{Result, resultBy, line2, line2Mark, line3, line3Squeeze, line6, line7, line14, line15, line17, line18, line19, blocksBytes, absorbNumber, finishNumber, squeezeNumber, markNumber, recallNumber, digestNumber}
 use Rattle.sponge.specs.leaf.Marks.{foundNumber}
 use Rattle.sponge.specs.leaf.Ready.{ZeroPast, Ready}
@@ -96,7 +96,7 @@ squeeze-passed s w k buffer e =
       room = ltb-false extraLimit (s .extra + k) (search none);
     }
 
--- ---- a mark
+-- ---- a marking
 
 -- an instance's number is a byte
 instance-byte : (i : ℕ) → isInstance i ≡ true → i < 256
@@ -106,12 +106,12 @@ instance-byte i =
     (either-way (eqb i 1) (eqb i 2) (λ h. omega (arith, eqb-true i 1 h)) (λ h. omega (arith, eqb-true i 2 h)))
     (λ h. omega (arith, eqb-true i 3 h))
 
--- line 19: there is room for one more mark
+-- where line 19 does not hold, there is room for one more mark
 pub mark-room : (bytes count : ℕ) → line19 bytes count ≡ false → 64 * count + 64 ≤ bytes
 unfolding line19
 mark-room bytes count e = omega (arith, leb-false (bytes / markSize) count e)
 
--- line 17: the marks in use fit
+-- where line 17 does not hold, the marks in use fit the buffer
 count-passed : (bytes count : ℕ) → line17 bytes count ≡ false → 64 * count ≤ bytes
 unfolding line17
 count-passed bytes count e =
@@ -133,9 +133,9 @@ mark-passed s bytes count e =
       room = mark-room bytes count (search none);
     }
 
--- ---- a recall
+-- ---- a return
 
--- the lines of the last of some marks, if there is one
+-- what `found_line` answers: 18 where there is no mark, else the lines of the last of the first `upto`
 pub none-there : (buffer : List ℕ) (upto : ℕ) → upto ≡ 0 → 18 ≡ foundNumber buffer upto
 unfolding foundNumber firstLine
 none-there buffer upto none = rw (eq-eqb upto 0 none)
@@ -146,37 +146,37 @@ unfolding foundNumber firstLine
 lines-of-last buffer mark upto some e = rw (e, ne-eqb upto 0 some)
 
 -- the lines of the state and of the buffer come first, then those of the mark that is found
-abbrev marksLines : State → (bytes count : ℕ) → List (Bool × ℕ)
-marksLines s bytes count = (line1 (s .instance), 1) ∷ (line2 s, 2) ∷ (line17 bytes count, 17) ∷ []
+abbrev frontLines : State → (bytes count : ℕ) → List (Bool × ℕ)
+frontLines s bytes count = (line1 (s .instance), 1) ∷ (line2 s, 2) ∷ (line17 bytes count, 17) ∷ []
 
 abbrev foundLines : (name buffer : List ℕ) (count : ℕ) → List (Bool × ℕ)
 foundLines name buffer count =
     (line18 name buffer count, 18) ∷ (line1 (stateIn (found name buffer count) .instance), 1) ∷ (line2Mark (found name buffer count), 2) ∷ []
 
-module _ (s : State) (name buffer : List ℕ) (count front : ℕ) (e : front ≡ firstLine (marksLines s (length buffer) count ++ ((true, 0) ∷ []))) where
-  by-marks : front ≡ firstLine (marksLines s (length buffer) count)
+module _ (s : State) (name buffer : List ℕ) (count front : ℕ) (e : front ≡ firstLine (frontLines s (length buffer) count ++ ((true, 0) ∷ []))) where
+  by-front : front ≡ firstLine (frontLines s (length buffer) count)
   unfolding firstLine
-  by-marks = with-rest (marksLines s (length buffer) count) [] e refl
+  by-front = with-rest (frontLines s (length buffer) count) [] e refl
 
   -- one of the first lines holds: the others are not read
   pub recall-by-front : (front ≡ 0 → ⊥) → front ≡ recallNumber s name buffer count
   unfolding recallNumber
-  recall-by-front = decided-before [] (marksLines s (length buffer) count) (foundLines name buffer count) front by-marks
+  recall-by-front = decided-before [] (frontLines s (length buffer) count) (foundLines name buffer count) front by-front
 
   -- none of them holds: the marks in use fit the buffer, and the others decide
   module _ (none : front ≡ 0) where
     pub marks-fit : 64 * count ≤ length buffer
     marks-fit =
-        let each = none-holds (marksLines s (length buffer) count) refl (sym by-marks ∙ none) in
+        let each = none-holds (frontLines s (length buffer) count) refl (sym by-front ∙ none) in
         count-passed (length buffer) count (search each)
 
-    module _ (upto rest : ℕ) (eu : upto ≡ latest name buffer count) (er : rest ≡ foundNumber buffer upto) where
+    module _ (upto rest : ℕ) (eu : upto ≡ upToLatest name buffer count) (er : rest ≡ foundNumber buffer upto) where
       pub recall-by-rest : rest ≡ recallNumber s name buffer count
       unfolding recallNumber foundNumber line18 found
       recall-by-rest =
           er
           ∙ ap (foundNumber buffer) eu
-          ∙ sym (none-in-front (marksLines s (length buffer) count) (foundLines name buffer count) refl (sym by-marks ∙ none))
+          ∙ sym (none-in-front (frontLines s (length buffer) count) (foundLines name buffer count) refl (sym by-front ∙ none))
 
       -- where none of those holds either, there is a mark, and it stands in the buffer
       pub mark-found : rest ≡ 0 → (0 < upto) × (64 * (upto - 1) + 64 ≤ length buffer)

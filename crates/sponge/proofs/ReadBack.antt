@@ -20,7 +20,7 @@ use Rattle.permutation.specs.Lines.{line1}
 use Rattle.sponge.specs.declared.State.{State}
 use Rattle.sponge.specs.Bytes.{same}
 use Rattle.sponge.specs.Soundness.{sound}
-use Rattle.sponge.specs.Marks.{markSize, mostMarkBytes, markOf, nameIn, stateIn, endsInZeros, markAt, withMark, latest, found}
+use Rattle.sponge.specs.Marks.{markSize, mostMarkBytes, markOf, nameIn, stateIn, endsInZeros, markAt, withMark, upToLatest, found}
 use Rattle.sponge.specs.Outcomes.{Result, resultBy, line2, line2Mark, line17, line18, line19, markNumber, markBytes, recallNumber, recallResult}
 use Rattle.sponge.specs.ReadBack.{AfterMarking, SameState, OthersStay, RecallSound, ReadBack}
 use Rattle.sponge.proofs.Compared.{equal-same}
@@ -31,8 +31,8 @@ use Rattle.sponge.proofs.WrittenMarks.{in-four-bytes, name-back, length
 -- ---- the search
 
 -- it reads no mark after the first `count`
-latest-same : (name b b′ : List ℕ) (count : ℕ) → ((j : ℕ) → j < count → markAt b′ j ≡ markAt b j) → latest name b′ count ≡ latest name b count
-unfolding latest
+latest-same : (name b b′ : List ℕ) (count : ℕ) → ((j : ℕ) → j < count → markAt b′ j ≡ markAt b j) → upToLatest name b′ count ≡ upToLatest name b count
+unfolding upToLatest
 latest-same name b b′ zero stays = refl
 latest-same name b b′ (suc j) stays =
     ap₂ (λ (mark : List ℕ) (others : ℕ). cond (same (nameIn mark) name) (suc j) others) (stays j (le-refl (suc j)))
@@ -47,7 +47,7 @@ recalled t upto mark =
     ((line1 (t .instance), 1) ∷ (line2 t, 2) ∷ (false, 17) ∷ (eqb upto 0, 18) ∷ (line1 (stateIn mark .instance), 1) ∷ (line2Mark mark, 2) ∷ []))
     t (stateIn mark)
 
-recall-is : (t : State) (name b : List ℕ) (count : ℕ) → line17 (length b) count ≡ false → recallResult t name b count ≡ recalled t (latest name b count) (found name b count)
+recall-is : (t : State) (name b : List ℕ) (count : ℕ) → line17 (length b) count ≡ false → recallResult t name b count ≡ recalled t (upToLatest name b count) (found name b count)
 unfolding recallResult recallNumber line18 firstLine
 recall-is t name b count e = rw e
 
@@ -63,7 +63,7 @@ module _ (s t : State) (name buffer : List ℕ) (count : ℕ) (a : AfterMarking 
   abbrev b : List ℕ
   b = markBytes s name buffer count
 
-  -- lines 1, 2, 17 and 19 of the marking
+  -- none of lines 1, 2, 17 and 19 holds for the marking
   passed : (isInstance (s .instance) ≡ true) × (sound s ≡ true) × (line17 (length buffer) count ≡ false) × (line19 (length buffer) count ≡ false)
   unfolding markNumber line1 line2
   passed =
@@ -95,17 +95,17 @@ module _ (s t : State) (name buffer : List ℕ) (count : ℕ) (a : AfterMarking 
   others-there j h = ap (λ (l : List ℕ). markAt l j) written ∙ earlier-stay buffer mark count space long j h
 
   -- the search in one more mark, for any name
-  latest-next : (other : List ℕ) → latest other b (count + 1) ≡ cond (same name other) (suc count) (latest other buffer count)
-  unfolding latest
+  latest-next : (other : List ℕ) → upToLatest other b (count + 1) ≡ cond (same name other) (suc count) (upToLatest other buffer count)
+  unfolding upToLatest
   latest-next other =
-      ap (latest other b) (add-one count)
+      ap (upToLatest other b) (add-one count)
       ∙ ap₂ (λ (l : List ℕ) (others : ℕ). cond (same l other) (suc count) others) (ap nameIn mark-there ∙ name-back name s (a .name-16))
       (latest-same other buffer b count others-there)
 
   same-state : recallResult t name b (count + 1) ≡ record { outcome = accepted tt; state = s }
   unfolding found resultBy firstLine line1 line2 line2Mark outcome
   same-state =
-      let upto : latest name b (count + 1) ≡ suc count = latest-next name ∙ rw (equal-same name) in
+      let upto : upToLatest name b (count + 1) ≡ suc count = latest-next name ∙ rw (equal-same name) in
       let back : suc count - 1 ≡ count = omega arith in
       let mark-is : found name b (count + 1) ≡ mark = ap (λ (n : ℕ). markAt b (n - 1)) upto ∙ ap (markAt b) back ∙ mark-there in
       let state-is : stateIn mark ≡ s = state-back name s (a .name-16) (a .bytes-32) (in-four-bytes s (passed .1)) in
@@ -116,20 +116,20 @@ module _ (s t : State) (name buffer : List ℕ) (count : ℕ) (a : AfterMarking 
   others-stay : (other : List ℕ) → same name other ≡ false → recallResult t other b (count + 1) ≡ recallResult t other buffer count
   unfolding found
   others-stay other differs =
-      let upto = latest other buffer count in
-      let upto-is : latest other b (count + 1) ≡ upto = latest-next other ∙ rw differs in
+      let upto = upToLatest other buffer count in
+      let upto-is : upToLatest other b (count + 1) ≡ upto = latest-next other ∙ rw differs in
       recall-is t other b (count + 1) lawful
       ∙ ap (λ (n : ℕ). recalled t n (markAt b (n - 1))) upto-is
       ∙ by-found
       ∙ sym (recall-is t other buffer count (passed .2))
     where
       -- nothing is found, or a mark before the new one
-      by-found : recalled t (latest other buffer count) (markAt b (latest other buffer count - 1))
-          ≡ recalled t (latest other buffer count) (markAt buffer (latest other buffer count - 1))
+      by-found : recalled t (upToLatest other buffer count) (markAt b (upToLatest other buffer count - 1))
+          ≡ recalled t (upToLatest other buffer count) (markAt buffer (upToLatest other buffer count - 1))
       by-found =
-          elim (ℕ-discrete (latest other buffer count) 0) [
+          elim (ℕ-discrete (upToLatest other buffer count) 0) [
             | yes none ↦ rw none (nothing-found t (a .is-instance) (a .is-sound) (markAt b (0 - 1)) (markAt buffer (0 - 1)))
-            | no some ↦ ap (recalled t (latest other buffer count)) (others-there (latest other buffer count - 1) (omega (arith, latest-within other buffer count)))
+            | no some ↦ ap (recalled t (upToLatest other buffer count)) (others-there (upToLatest other buffer count - 1) (omega (arith, latest-within other buffer count)))
           ]
 
 -- ---- an accepted return gives a sound state

@@ -11,7 +11,7 @@ use Rattle.permutation.specs.Lines.{line1, line4}
 use Rattle.sponge.specs.declared.State.{State}
 use Rattle.sponge.specs.Bytes.{same, fourByteNumber}
 use Rattle.sponge.specs.Soundness.{allZero, soundRuns, mostExtra, sound, allZeros}
-use Rattle.sponge.specs.Marks.{fourBytes, markFields, markOf, nameIn, stateIn, endsInZeros, markAt, latest, found}
+use Rattle.sponge.specs.Marks.{fourBytes, markFields, markOf, nameIn, stateIn, endsInZeros, markAt, upToLatest, found}
 use Rattle.sponge.specs.Outcomes.{line2, line2Mark, line3Squeeze, line6, line7, line8, line14, line15, line17, line18, line19, blocksBytes, squeezeNumber, markNumber, recallNumber, digestNumber}
 use Rattle.sponge.specs.Calls.{Message, piece, finish, squeeze, messageNumber, grown, extended}
 use Rattle.sponge.specs.Lists.{Name, on-state, mark, recall, isSaved, latestSaved, messagesNumber, messagesAfter, messagesFrom, messagesOf, messageOf}
@@ -143,12 +143,12 @@ five =
 
 pub searched :
     -- the latest of the first 5 marks, of the first 2, and of none
-    (latest (named 1) five 5 ≡ 3) × (latest (named 1) five 2 ≡ 1) × (latest (named 1) five 0 ≡ 0)
-    × (latest (named 2) five 5 ≡ 2) × (latest (named 2) five 1 ≡ 0)
+    (upToLatest (named 1) five 5 ≡ 3) × (upToLatest (named 1) five 2 ≡ 1) × (upToLatest (named 1) five 0 ≡ 0)
+    × (upToLatest (named 2) five 5 ≡ 2) × (upToLatest (named 2) five 1 ≡ 0)
     -- a name of which only the first, or the last, byte differs
-    × (latest (replicate 15 1 ++ (7 ∷ [])) five 5 ≡ 4) × (latest (7 ∷ replicate 15 1) five 5 ≡ 5)
+    × (upToLatest (replicate 15 1 ++ (7 ∷ [])) five 5 ≡ 4) × (upToLatest (7 ∷ replicate 15 1) five 5 ≡ 5)
     × (stateIn (found (named 1) five 5) .instance ≡ 3)
-unfolding latest found markAt nameIn same markFields fourBytes stateIn
+unfolding upToLatest found markAt nameIn same markFields fourBytes stateIn
 searched = (refl, refl, refl, refl, refl, refl, refl, refl)
 
 -- what mark answers a state of no bits taken, with all bits zero
@@ -182,7 +182,7 @@ pub recall-order :
     × (recallNumberAt 1 0 (markWith (named 1) 1 0 1 0 0) 1 ≡ 2)
     × (recallNumberAt 1 0 (markWith (named 1) 1 0 0 0 0 ++ markWith (named 1) 0 0 0 0 0) 2 ≡ 1)
     × (recallNumberAt 1 0 (markWith (named 1) 0 0 0 0 0 ++ markWith (named 1) 3 0 0 0 0) 2 ≡ 0)
-unfolding recallNumberAt recallNumber firstLine line1 line2 line17 line18 line2Mark endsInZeros latest found markAt nameIn same markFields fourBytes stateIn fourByteNumber sound soundRuns mostExtra allZero isInstance stateBytes instanceOf U S
+unfolding recallNumberAt recallNumber firstLine line1 line2 line17 line18 line2Mark endsInZeros upToLatest found markAt nameIn same markFields fourBytes stateIn fourByteNumber sound soundRuns mostExtra allZero isInstance stateBytes instanceOf U S
 recall-order = (refl, refl, refl, refl, refl, refl, refl, refl, refl, refl, refl, refl, refl)
 
 -- ---- a list with marks

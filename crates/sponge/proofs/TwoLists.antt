@@ -24,7 +24,7 @@ use Rattle.sponge.specs.TwoLists.{spongeOf, Follows, MarksFollow, ListFo
 use Rattle.sponge.proofs.StateBytes.{bits-content}
 use Rattle.sponge.proofs.WrittenMarks.{name-back, zeros-back}
 use Rattle.sponge.proofs.Messages.{stateOf, wide-sponge, sponge-closed, sound-message, Admissible}
-use Rattle.sponge.proofs.Lists.{refused-leaves, refused-saves-nothing, Kept, Stands, stands, long-state, state-of-mark, answers}
+use Rattle.sponge.proofs.Lists.{refused-leaves, refused-saves-nothing, MarksOfSaved, Invariant, invariant, long-state, state-of-mark, answers}
 
 -- ---- one list
 
@@ -43,8 +43,8 @@ follows-message i m h = record {
 
 module _ (i : ℕ) (is-instance : isInstance i ≡ true) where
   -- and so do the marks
-  marks-follow : (b : List ℕ) (saved : List Saved) → Kept i is-instance saved b → MarksFollow i b saved
-  unfolding MarksFollow Kept
+  marks-follow : (b : List ℕ) (saved : List Saved) → MarksOfSaved i is-instance saved b → MarksFollow i b saved
+  unfolding MarksFollow MarksOfSaved
   marks-follow b [] k = tt
   marks-follow b (s ∷ earlier) k =
       let name = s .name in (
@@ -55,8 +55,8 @@ module _ (i : ℕ) (is-instance : isInstance i ≡ true) where
       )
 
   module _ (list : CallList) where
-    abbrev s : Stands i is-instance (list .buffer) (messagesOf i list) (run i list)
-    s = stands i is-instance list
+    abbrev s : Invariant i is-instance (list .buffer) (messagesOf i list) (run i list)
+    s = invariant i is-instance list
 
     pub run-state : (run i list .state ≡ stateOf i (messageOf i list)) × Admissible (messageOf i list)
     run-state = (ap (λ (h : ListState). h .state) (s .is), s .within)
@@ -68,7 +68,7 @@ module _ (i : ℕ) (is-instance : isInstance i ≡ true) where
         record {
           state-follows = subst (Follows i (messageOf i list)) (sym (run-state .0)) (follows-message i (messageOf i list) (s .within));
           count-is = ap (λ (h : ListState). h .count) (s .is);
-          marks-follow = subst (λ (b : List ℕ). MarksFollow i b saved) (sym buffer) (marks-follow (s .buffer) saved (s .has-marks .kept));
+          marks-follow = subst (λ (b : List ℕ). MarksFollow i b saved) (sym buffer) (marks-follow (s .buffer) saved (s .has-marks .marks));
           rest-stays = ap (drop (markSize * length saved)) buffer ∙ s .has-marks .rest;
         }
 

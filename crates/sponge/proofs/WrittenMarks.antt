@@ -19,7 +19,7 @@ use Rattle.sponge.proofs.Soundness.{tests}
 
 -- ---- a number in four bytes
 
--- its digits to the base 256
+-- a number is the sum of its digits to the base 256
 digits : (x y z a b c d : ℕ) → x ≡ y * 256 + d → y ≡ z * 256 + c → z ≡ a * 256 + b → a * 16777216 + b * 65536 + c * 256 + d ≡ x
 digits x y z a b c d p q r = omega arith
 
@@ -128,7 +128,7 @@ module _ (buffer mark : List ℕ) (c : ℕ) (fits : markSize * c + markSize ≤ 
       length-append (take (markSize * c) buffer ++ mark) (drop (markSize * c + markSize) buffer)
       ∙ omega (arith, length-both, length-drop (markSize * c + markSize) buffer)
 
-  -- it is the one that was written
+  -- mark c is the one that was written
   pub mark-written : markAt (withMark buffer c mark) c ≡ mark
   unfolding markAt withMark
   mark-written =

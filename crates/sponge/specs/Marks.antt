@@ -64,10 +64,10 @@ unfoldable pub withMark : (buffer : List ℕ) (j : ℕ) → List ℕ → List �
 withMark buffer j mark = take (markSize * j) buffer ++ mark ++ drop (markSize * j + markSize) buffer
 
 -- how many marks there are up to the latest with the name, that one included, among the first `count`; 0 where none has the name
-unfoldable pub latest : (name buffer : List ℕ) (count : ℕ) → ℕ
-latest name buffer zero = 0
-latest name buffer (suc j) = cond (same (nameIn (markAt buffer j)) name) (suc j) (latest name buffer j)
+unfoldable pub upToLatest : (name buffer : List ℕ) (count : ℕ) → ℕ
+upToLatest name buffer zero = 0
+upToLatest name buffer (suc j) = cond (same (nameIn (markAt buffer j)) name) (suc j) (upToLatest name buffer j)
 
--- that mark
+-- that mark; where none has the name it is mark 0, and line 18 holds
 unfoldable pub found : (name buffer : List ℕ) (count : ℕ) → List ℕ
-found name buffer count = markAt buffer (latest name buffer count - 1)
+found name buffer count = markAt buffer (upToLatest name buffer count - 1)

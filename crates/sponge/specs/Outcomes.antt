@@ -17,7 +17,7 @@ use Rattle.sponge.specs.declared.Marked.{Marked}
 use Rattle.sponge.specs.declared.Marked.the-variants.{Count, Refused}
 use Rattle.sponge.specs.Taking.{takeBits, finishOutput, finished, squeezeOutput, extraSqueezed}
 use Rattle.sponge.specs.Soundness.{limit, extraLimit, mostBlocks, absorbingPhase, closedPhase, sound, contentOf, stateWith, fresh, allZeros}
-use Rattle.sponge.specs.Marks.{markSize, mostMarkBytes, markOf, stateIn, endsInZeros, withMark, latest, found}
+use Rattle.sponge.specs.Marks.{markSize, mostMarkBytes, markOf, stateIn, endsInZeros, withMark, upToLatest, found}
 
 -- ---- the lines
 
@@ -60,7 +60,7 @@ line17 bytes count = ltb mostMarkBytes bytes || not (eqb (bytes % markSize) 0) |
 
 -- 18. No mark in use has the name.
 unfoldable pub line18 : (name buffer : List ℕ) (count : ℕ) → Bool
-line18 name buffer count = eqb (latest name buffer count) 0
+line18 name buffer count = eqb (upToLatest name buffer count) 0
 
 -- 19. Every mark of the buffer is in use.
 unfoldable pub line19 : (bytes count : ℕ) → Bool

@@ -13,8 +13,8 @@ use Rattle.sponge.specs.Marks.{nameSize}
 use Rattle.sponge.specs.Soundness.{sound}
 use Rattle.sponge.specs.Outcomes.{markNumber, markBytes, recallNumber, recallResult}
 
--- a marking of a state, with its 32 bytes, under a name of 16, that is accepted; and a state from which a return is made, sound and of any
--- instance
+-- an accepted marking of a state s, whose bits are 32 bytes, under a name of 16 bytes; and a sound state t, of any instance, from which a
+-- return is made
 pub record AfterMarking (s t : State) (name buffer : List ℕ) (count : ℕ) : Type 0 where
   pub bytes-32 : length (s .bits) ≡ 32
   pub name-16 : length name ≡ nameSize

@@ -58,8 +58,8 @@ unfoldable pub RunFollows : Type 0
 RunFollows = (i : ℕ) → isInstance i ≡ true → (list : CallList) → ListFollows i list
 
 -- and the messages determine what each further call answers: in a list lines 1, 2 and 8 never refuse, not for a mark that is found either; 3
--- refuses a piece or a finish on a closed message alone, and a squeeze on an open one alone; and 18 refuses a return to a name under which
--- nothing was saved, alone
+-- refuses a piece or a finish only on a closed message, and a squeeze only on an open one; and 18 refuses a return only where nothing was
+-- saved under the name
 unfoldable pub AnswersFollow : Type 0
 AnswersFollow =
     (i : ℕ) → isInstance i ≡ true → (list : CallList) (call : ListCall)

@@ -97,7 +97,7 @@ pub fn squeeze(state: State, width: u32, k: usize, buffer: &mut [u8]) -> Reply
     replies::accept(output::give_extra(state, width, k, buffer))
 }
 
-// Document 02's marking: writes the state under a name into the buffer, 64 bytes after `count` marks in use, and answers count + 1.
+// Document 02's marking: writes the state under a name into the 64 bytes of the buffer after the `count` marks in use, and answers count + 1.
 // Refuses by lines 1, 2, 17 and 19, in this order; the buffer is then untouched.
 pub fn mark(state: State, name: [u8; 16], buffer: &mut [u8], count: usize) -> Marked
     ensures answer { λ r. ⌜ markedOutcome r ≡ markOutcome state (length (now (buffer .entry))) count ⌝ }
@@ -111,17 +111,17 @@ pub fn mark(state: State, name: [u8; 16], buffer: &mut [u8], count: usize) -> Ma
     Marked::Count(count + 1)
 }
 
-// Document 02's coming back, from a sound state of any phase: hands back the state of the latest mark with the name among the `count` in use,
-// whatever its instance.
+// Document 02's coming back: hands back the state of the latest mark with the name among the `count` in use. The state that is given may be of
+// either phase, and of another instance.
 // Refuses by lines 1, 2, 17 and 18, and then by lines 1 and 2 of the mark that is found, in this order; the state is then the one that was given.
 pub fn recall(state: State, name: [u8; 16], buffer: &[u8], count: usize) -> Reply
     ensures { λ r. ⌜ resultOf r ≡ recallResult state name (now (buffer .entry)) count ⌝ }
 {
-    let number = lines::marks_line(state, buffer.len(), count, 0);
+    let number = lines::front_line(state, buffer.len(), count, 0);
     if number != 0 {
         return replies::refuse(number, state);
     }
-    let upto = marks::latest(name, buffer, count);
+    let upto = marks::up_to_latest(name, buffer, count);
     let number = lines::found_line(buffer, upto);
     if number != 0 {
         return replies::refuse(number, state);

@@ -153,7 +153,7 @@ pub fn squeeze_line(state: State, width: u32, k: usize, buffer: usize) -> u32
 
 // The first of lines 1, 2 and 17 that holds for a state, and for a buffer of marks with `count` in use; where none does, what the lines after
 // them give.
-pub fn marks_line(state: State, bytes: usize, count: usize, rest: u32) -> u32
+pub fn front_line(state: State, bytes: usize, count: usize, rest: u32) -> u32
     ensures { λ r. ⌜ r ≡ firstLine ((line1 (state .instance), 1) ∷ (line2 state, 2) ∷ (line17 bytes count, 17) ∷ (true, rest) ∷ []) ⌝ }
 {
     let number = first(marks_off(bytes, count), WRONG_MARK_BUFFER, rest);
@@ -166,11 +166,11 @@ pub fn mark_line(state: State, bytes: usize, count: usize) -> u32
     ensures { λ r. ⌜ r ≡ markNumber state bytes count ⌝ }
 {
     let number = first(bytes / marks::SIZE <= count, NO_FREE_MARK, 0);
-    marks_line(state, bytes, count, number)
+    front_line(state, bytes, count, number)
 }
 
 // The first of lines 1 and 2 that holds for a mark; 0 where none does.
-fn state_line(mark: &[u8]) -> u32
+fn line_of_mark(mark: &[u8]) -> u32
     requires { ⌜ length (now mark) ≡ 64 ⌝ }
     ensures { λ r. ⌜ r ≡ firstLine ((line1 (stateIn (now (mark .entry)) .instance), 1) ∷ (line2Mark (now (mark .entry)), 2) ∷ []) ⌝ }
 {
@@ -189,7 +189,7 @@ pub fn found_line(buffer: &[u8], upto: usize) -> u32
     if upto == 0 {
         return NO_SUCH_MARK;
     }
-    state_line(marks::mark_at(buffer, upto - 1))
+    line_of_mark(marks::mark_at(buffer, upto - 1))
 }
 
 // The first of lines 1, 4, 5, 6, 7 and 8 that holds for a whole digest; 0 where none does.

@@ -14,7 +14,7 @@ use crate::pieces;
 use crate::rate;
 use crate::sound::CLOSED;
 
-// The digest writer, and the writer of a mark: writes a part into the buffer from `at` on.
+// The digest writer: writes a part of a digest, or of a mark, into the buffer from `at` on.
 pub fn put(buffer: &mut [u8], at: usize, part: &[u8])
     requires { ⌜ at + length (now part) ≤ length (now buffer) ⌝ }
     ensures { λ _. ⌜ now (buffer .exit) ≡ paste (now (buffer .entry)) at (now (part .entry)) (length (now (part .entry))) ⌝ }

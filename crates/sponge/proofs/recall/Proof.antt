@@ -15,27 +15,27 @@ returns : tie.Need-returns
 unfolding recallResult
 returns c =
     let some = c .before .if1 .taken in
-    c .refuse .ensures ∙ refused-result _ _ _ _ (recall-by-front _ _ _ _ _ (c .before .before .marks-line .ensures) some) some
+    c .refuse .ensures ∙ refused-result _ _ _ _ (recall-by-front _ _ _ _ _ (c .before .before .front-line .ensures) some) some
 
 -- past the first test the marks in use fit the buffer
 fit : (c : tie.Else1) → let a = c .before .before .before .args in 64 * a .count ≤ length (now (a .buffer))
 fit c =
     let a = c .before .before .before .args in
-    marks-fit (a .state) (a .name) (now (a .buffer)) (a .count) _ (c .before .marks-line .ensures) (c .if1 .left)
+    marks-fit (a .state) (a .name) (now (a .buffer)) (a .count) _ (c .before .front-line .ensures) (c .if1 .left)
 
-latest-requires : tie.Need-latest-requires
-latest-requires c κs = fit c
+up-to-latest-requires : tie.Need-up-to-latest-requires
+up-to-latest-requires c κs = fit c
 
 found-line-requires : tie.Need-found-line-requires
 found-line-requires c κs =
     let a = c .before .before .before .before .args in
-    omega (arith, fit (c .before), c .latest .ensures, latest-within (a .name) (now (a .buffer)) (a .count))
+    omega (arith, fit (c .before), c .up-to-latest .ensures, latest-within (a .name) (now (a .buffer)) (a .count))
 
 -- the lines of the mark that is found decide
 by-found : (c : tie.After-found-line) → let a = c .before .before .before .before .before .args in
     c .found-line .result ≡ recallNumber (a .state) (a .name) (now (a .buffer)) (a .count)
 by-found c =
-    recall-by-rest _ _ _ _ _ (c .before .before .before .marks-line .ensures) (c .before .before .if1 .left) _ _ (c .before .latest .ensures) (c .found-line .ensures)
+    recall-by-rest _ _ _ _ _ (c .before .before .before .front-line .ensures) (c .before .before .if1 .left) _ _ (c .before .up-to-latest .ensures) (c .found-line .ensures)
 
 returns-2 : tie.Need-returns-2
 unfolding recallResult
@@ -43,13 +43,13 @@ returns-2 c = c .refuse2 .ensures ∙ refused-result _ _ _ _ (by-found (c .befor
 
 -- past the second test there is a mark, and it stands in the buffer
 there : (c : tie.Else2) → let a = c .before .before .before .before .before .before .args in
-    let upto = c .before .before .latest .result in
+    let upto = c .before .before .up-to-latest .result in
     (0 < upto) × (64 * (upto - 1) + 64 ≤ length (now (a .buffer)))
 there c =
     let passed = c .before .before .before in
     let a = passed .before .before .before .args in
-    mark-found (a .state) (a .name) (now (a .buffer)) (a .count) _ (passed .before .marks-line .ensures) (passed .if1 .left) _ _
-    (c .before .before .latest .ensures) (c .before .found-line .ensures) (c .if2 .left)
+    mark-found (a .state) (a .name) (now (a .buffer)) (a .count) _ (passed .before .front-line .ensures) (passed .if1 .left) _ _
+    (c .before .before .up-to-latest .ensures) (c .before .found-line .ensures) (c .if2 .left)
 
 sub-mark-at : tie.Need-sub-mark-at
 sub-mark-at c = omega (arith, there c)
@@ -66,7 +66,7 @@ returns-3 c =
     let at-test = c .before .before .before in
     c .accept .ensures
     ∙ accepted-result _ _ _ _ (sym (by-found (at-test .before)) ∙ at-test .if2 .left)
-    (c .before .state-in .ensures ∙ ap stateIn (c .before .before .mark-at .ensures ∙ found-at _ _ _ _ (at-test .before .before .latest .ensures)))
+    (c .before .state-in .ensures ∙ ap stateIn (c .before .before .mark-at .ensures ∙ found-at _ _ _ _ (at-test .before .before .up-to-latest .ensures)))
 
 pub recall-spec : {M : Type 1} → statement M
 recall-spec =
@@ -75,7 +75,7 @@ recall-spec =
     (λ c κs. tt)
     (λ c κs. tt)
     returns
-    latest-requires
+    up-to-latest-requires
     found-line-requires
     (λ c κs. tt)
     returns-2

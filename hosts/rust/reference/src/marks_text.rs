@@ -22,7 +22,7 @@ pub fn text() -> String {
     text
 }
 
-/// `recall`, with what is written of it: the state that it hands back.
+/// Calls `recall` and writes its answer; the state that it hands back.
 fn recalled(text: &mut String, state: State, buffer: &[u8], count: usize) -> State {
     let (number, after) = recall(state, NAME, buffer, count);
     let State { instance, phase, total, runs, extra, bits } = after;
@@ -31,7 +31,7 @@ fn recalled(text: &mut String, state: State, buffer: &[u8], count: usize) -> Sta
     after
 }
 
-/// `mark`, with what is written of it: the new count, or the old one where it is refused.
+/// Calls `mark` and writes its answer; the new count, or the old one where it is refused.
 fn marked(text: &mut String, state: State, buffer: &mut [u8], count: usize) -> usize {
     write!(text, "mark in {} bytes after {count}: ", buffer.len()).unwrap();
     match mark(state, NAME, buffer, count) {
@@ -46,7 +46,7 @@ fn marked(text: &mut String, state: State, buffer: &mut [u8], count: usize) -> u
     }
 }
 
-/// `finish`, with what is written of it: the closed state.
+/// Calls `finish` and writes its answer; the closed state.
 fn finished(text: &mut String, state: State) -> State {
     let mut bytes = vec![0; state_bytes(state.instance)];
     let (number, closed) = finish(state, 8, &mut bytes);
@@ -101,7 +101,7 @@ fn state(instance: u32, phase: u32, total: u32, runs: u32, extra: u32) -> State 
     State { instance, phase, total, runs, extra, bits: [0; 32] }
 }
 
-/// A mark in a fresh buffer, the first byte that it changed, or the length where it changed none, and a return.
+/// A marking in a buffer of bytes 165, the index of the first byte that it changed, or the length where it changed none, and a return.
 fn row(text: &mut String, state: State, length: usize, count: usize) {
     let mut buffer = vec![0xA5; length];
     let next = marked(text, state, &mut buffer, count);
@@ -110,7 +110,8 @@ fn row(text: &mut String, state: State, length: usize, count: usize) {
     recalled(text, state, &buffer, next);
 }
 
-/// Lengths of the buffer and counts. The last two counts come to 0 and to 999 where their bytes are cut to 64 bits.
+/// Lengths of the buffer and counts. 64 times the last two counts wraps in 64 bits, to the bytes of 0 and of 999
+/// marks.
 fn lengths_and_counts(text: &mut String) {
     let counts_of_a_mark = [(0, 0), (0, 1), (63, 0), (64, 0), (64, 1), (64, 2), (65, 0), (96, 1), (128, 1)];
     let counts_of_1000 = [(64_000, 0), (64_000, 999), (64_000, 1_000), (64_000, 1_001)];

@@ -9,29 +9,29 @@ use reference::state_bytes;
 
 const NAMES: [[u8; 16]; 4] = [*b"after preamble 1", *b"after preamble 2", *b"before the end 1", [0; 16]];
 
-/// What a list has taken and given out.
+/// A list's message, whether it is closed, and its extras.
 #[derive(Clone)]
-struct Course {
-    message: Vec<u8>,
+struct Message {
+    bytes: Vec<u8>,
     bits: usize,
     closed: bool,
     extra: usize,
 }
 
-impl Course {
+impl Message {
     /// Adds a bit to the message.
     fn push(&mut self, bit: u8) {
         if self.bits % 8 == 0 {
-            self.message.push(0);
+            self.bytes.push(0);
         }
-        self.message[self.bits / 8] |= bit << (7 - self.bits % 8);
+        self.bytes[self.bits / 8] |= bit << (7 - self.bits % 8);
         self.bits += 1;
     }
 
-    /// The state of an instance after this course in as few calls as there can be.
+    /// The state of an instance with this message and these extras, in as few calls as there can be.
     fn state(&self, instance: u32) -> State {
         let (_, fresh) = init(instance);
-        let (number, mut state) = absorb(fresh, 8, &self.message, self.bits as u64);
+        let (number, mut state) = absorb(fresh, 8, &self.bytes, self.bits as u64);
         assert_eq!(number, 0);
         if self.closed {
             state = finish(state, 8, &mut vec![0; state_bytes(instance)]).1;
@@ -44,7 +44,7 @@ impl Course {
 
     /// The bytes of the output from `from` to `to`, and the number of runs up to there.
     fn output(&self, instance: u32, from: usize, to: usize) -> (Vec<u8>, u64) {
-        let whole = output(instance, &self.message, self.bits, to);
+        let whole = output(instance, &self.bytes, self.bits, to);
         (whole.bytes[from..].to_vec(), whole.runs)
     }
 }
@@ -55,8 +55,8 @@ struct List {
     state: State,
     buffer: Vec<u8>,
     count: usize,
-    course: Course,
-    saved: Vec<([u8; 16], Course)>,
+    current: Message,
+    saved: Vec<([u8; 16], Message)>,
 }
 
 impl List {
@@ -64,18 +64,18 @@ impl List {
     fn new(instance: u32, length: usize) -> List {
         let (_, other) = init(instance % 3 + 1);
         let mut buffer = vec![0; length.next_multiple_of(64)];
-        for (i, place) in buffer.chunks_mut(64).enumerate() {
-            assert_eq!(mark(other, NAMES[i % 4], place, 0), Ok(1));
+        for (i, bytes) in buffer.chunks_mut(64).enumerate() {
+            assert_eq!(mark(other, NAMES[i % 4], bytes, 0), Ok(1));
         }
         buffer.truncate(length);
-        let course = Course { message: vec![], bits: 0, closed: false, extra: 0 };
-        List { instance, state: init(instance).1, buffer, count: 0, course, saved: vec![] }
+        let current = Message { bytes: vec![], bits: 0, closed: false, extra: 0 };
+        List { instance, state: init(instance).1, buffer, count: 0, current, saved: vec![] }
     }
 
     /// The first line of 3 and 4 that holds.
     fn first_line(&self, closed: bool, width: u32) -> u32 {
         match width {
-            _ if self.course.closed != closed => 3,
+            _ if self.current.closed != closed => 3,
             1 | 8 => 0,
             16 if self.instance == 3 => 0,
             _ => 4,
@@ -96,7 +96,7 @@ impl List {
         assert_eq!(number, expected);
         self.state = after;
         if number == 0 {
-            (0..count).for_each(|i| self.course.push(bytes[i / 8] >> (7 - i % 8) & 1));
+            (0..count).for_each(|i| self.current.push(bytes[i / 8] >> (7 - i % 8) & 1));
         }
         number
     }
@@ -111,8 +111,8 @@ impl List {
         assert_eq!(number, expected);
         self.state = after;
         if number == 0 {
-            self.course.closed = true;
-            let (digest, runs) = self.course.output(self.instance, 0, length);
+            self.current.closed = true;
+            let (digest, runs) = self.current.output(self.instance, 0, length);
             assert_eq!((bytes, u64::from(after.runs)), (digest, runs));
         } else {
             assert_eq!(bytes, vec![0xA5; length]);
@@ -132,10 +132,10 @@ impl List {
         assert_eq!(number, expected);
         self.state = after;
         if number == 0 {
-            let from = state_bytes(self.instance) + self.course.extra * size;
-            let (blocks, runs) = self.course.output(self.instance, from, from + length);
+            let from = state_bytes(self.instance) + self.current.extra * size;
+            let (blocks, runs) = self.current.output(self.instance, from, from + length);
             assert_eq!((bytes, u64::from(after.runs)), (blocks, runs));
-            self.course.extra += count;
+            self.current.extra += count;
         } else {
             assert_eq!(bytes, vec![0xA5; length]);
         }
@@ -154,7 +154,7 @@ impl List {
         match answer {
             Ok(count) => {
                 self.count = count;
-                self.saved.push((name, self.course.clone()));
+                self.saved.push((name, self.current.clone()));
                 0
             }
             Err(number) => number,
@@ -166,8 +166,8 @@ impl List {
         let expected = match latest {
             _ if self.wrong_buffer() => 17,
             None => 18,
-            Some((_, course)) => {
-                self.course = course.clone();
+            Some((_, current)) => {
+                self.current = current.clone();
                 0
             }
         };
@@ -211,7 +211,7 @@ fn lists_of_calls() {
                 let before = list.buffer.clone();
                 let (kind, number) = list.call(&mut random);
                 answers[kind][number as usize] += 1;
-                assert_eq!(list.state, list.course.state(instance));
+                assert_eq!(list.state, list.current.state(instance));
                 assert_eq!(list.count, list.saved.len());
                 let written = kind == 3 && number == 0;
                 let from = if written { 64 * (list.count - 1) } else { length };
@@ -221,7 +221,7 @@ fn lists_of_calls() {
             }
         }
     }
-    // every number that a list can have came up, and no other
+    // these numbers came up, and no others; 7 and 15 need longer lists
     let expected: [&[usize]; 5] = [&[0, 3, 4, 6], &[0, 3, 4, 5], &[0, 3, 4, 5, 14], &[0, 17, 19], &[0, 17, 18]];
     for (counts, numbers) in answers.iter().zip(expected) {
         assert!((0..20).all(|number| (counts[number] > 0) == numbers.contains(&number)), "{counts:?}");

@@ -94,8 +94,8 @@ fn a_preamble_and_three_endings() {
                 // the whole message: the preamble's bits are those of the first message
                 let mut whole = ending.clone();
                 for i in 0..bits {
-                    let place = 128 >> (i % 8);
-                    whole[i / 8] = whole[i / 8] & !place | messages[0][i / 8] & place;
+                    let weight = 128 >> (i % 8);
+                    whole[i / 8] = whole[i / 8] & !weight | messages[0][i / 8] & weight;
                 }
                 let expected = digest(instance, &whole, length);
                 assert_eq!((bytes, u64::from(after.runs)), (expected.bytes, expected.runs));
@@ -206,7 +206,7 @@ fn a_name_stands_at_a_marks_start() {
     assert_eq!(recall(fresh, NAME, &across, 2), (18, fresh));
 }
 
-/// One mark of each instance, typed by hand.
+/// A mark of each instance, and one of a fresh state, typed by hand.
 #[test]
 fn marks_in_full() {
     let letters = |count: usize| {
@@ -366,10 +366,10 @@ fn forged_fields() {
     }
 }
 
-/// Counts that no buffer has, or that come to a few marks where they, or their bytes, are cut to 32 or 64 bits.
+/// Counts over 1,000. Most become 0 or 1 if they, or 64 times them, are cut to 32 or 64 bits.
 const GREAT: [usize; 9] = [1_001, 1 << 26, (1 << 26) + 1, 1 << 32, (1 << 32) + 1, 1 << 58, (1 << 58) + 1, 1 << 63, usize::MAX];
 
-/// Line 17: the buffer's length and the count, for marks that are all in order.
+/// Line 17: the buffer's length and the count, for a buffer full of sound marks.
 #[test]
 fn lengths_and_counts() {
     for state in all_states() {

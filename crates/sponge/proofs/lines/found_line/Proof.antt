@@ -17,12 +17,12 @@ sub-mark-at c = search needs
 mark-at-requires : tie.Need-mark-at-requires
 mark-at-requires c κs = search needs
 
-state-line-requires : tie.Need-state-line-requires
-state-line-requires c κs = ap length (c .mark-at .ensures) ∙ mark-size _ _ (omega arith)
+line-of-mark-requires : tie.Need-line-of-mark-requires
+line-of-mark-requires c κs = ap length (c .mark-at .ensures) ∙ mark-size _ _ (omega arith)
 
 returns-2 : tie.Need-returns-2
-returns-2 c = c .state-line .ensures ∙ lines-of-last _ _ _ (c .before .before .if1 .left) (c .before .mark-at .ensures)
+returns-2 c = c .line-of-mark .ensures ∙ lines-of-last _ _ _ (c .before .before .if1 .left) (c .before .mark-at .ensures)
 
 pub found-line-spec : {M : Type 1} → statement M
 found-line-spec =
-    tie.close (tie.spec returns sub-mark-at mark-at-requires state-line-requires returns-2)
+    tie.close (tie.spec returns sub-mark-at mark-at-requires line-of-mark-requires returns-2)

@@ -1,4 +1,4 @@
--- `mark_line` meets its contract: line 19 is the rest of the lines that `marks_line` takes.
+-- `mark_line` meets its contract: line 19 is the rest of the lines that `front_line` takes.
 use Rattle.refusals.specs.Lines.{firstLine}
 use Rattle.sponge.specs.Outcomes.{markNumber, line19}
 use Rattle.sponge.proofs.lines.mark_line.Statement.{statement}

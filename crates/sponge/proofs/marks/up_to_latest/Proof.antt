@@ -1,16 +1,16 @@
--- `latest` meets its contract. The loop's invariant: the marks that are not tried yet decide.
+-- `up_to_latest` meets its contract. The loop's invariant: the marks that are not tried yet decide.
 use mathlib.Core.Path.{_≡_, sym, ap, _∙_}
 use Prim.Native.Nat.{_-_, _≤_}
 use native.Mathlib.Omega.{arith}
 use denote.Ref.{now}
 use lib.ListN.{length}
-use Rattle.sponge.specs.Marks.{latest}
+use Rattle.sponge.specs.Marks.{upToLatest}
 use Rattle.sponge.proofs.MarkBytes.{mark-size, last-named, last-not-named, none-left}
-use Rattle.sponge.proofs.marks.latest.Statement.{statement}
-use Rattle.sponge.proofs.marks.latest.Tie as tie
+use Rattle.sponge.proofs.marks.up_to_latest.Statement.{statement}
+use Rattle.sponge.proofs.marks.up_to_latest.Tie as tie
 
 abbrev Inv-loop : tie.InvT-loop
-Inv-loop name buffer count tried₀ tried = (tried ≤ count) × (latest name buffer count ≡ latest name buffer (count - tried))
+Inv-loop name buffer count tried₀ tried = (tried ≤ count) × (upToLatest name buffer count ≡ upToLatest name buffer (count - tried))
 
 abbrev μ-loop : tie.MeasureT-loop
 μ-loop name buffer count tried₀ tried = count - tried
@@ -19,7 +19,7 @@ loop-holds : tie.Need-loop-holds Inv-loop μ-loop
 loop-holds c =
     let a = c .before .args in
     let all : a .count ≡ a .count - 0 = omega arith in
-    (omega arith, ap (latest (a .name) (now (a .buffer))) all)
+    (omega arith, ap (upToLatest (a .name) (now (a .buffer))) all)
 
 sub-j : tie.Need-sub-j Inv-loop μ-loop
 sub-j c = omega arith
@@ -57,8 +57,8 @@ loop-again c = (
 returns-2 : tie.Need-returns-2 Inv-loop μ-loop
 returns-2 c = sym (c .before .loop .inv .1 ∙ none-left _ _ _ (omega arith))
 
-pub latest-spec : {M : Type 1} → statement M
-latest-spec =
+pub up-to-latest-spec : {M : Type 1} → statement M
+up-to-latest-spec =
     tie.close
     (tie.spec
     Inv-loop
