@@ -60,6 +60,7 @@ pub fn write_fields() {
     write_forged(47, 1, 0);
     write_forged(61, 1, 0);
     write_forged(62, 1, 0);
+    write_forged(62, 128, 128);
     write_forged(63, 1, 1);
     write_forged(63, 128, 128);
 }

@@ -16,5 +16,6 @@ pub mod TwoLists
 pub mod WholeDigest
 pub mod SoundCalls
 pub mod MoreBlocks
+pub mod BackToMark
 pub mod ReadBack
 pub mod Samples

@@ -2,9 +2,9 @@
 use mathlib.Core.Bool.{Bool, true, false, not, _||_}
 use mathlib.Core.List.{List, [], _∷_, _++_}
 use mathlib.Core.Path.{_≡_, refl, sym, ap, _∙_}
-use Prim.Native.Nat.{ℕ, _+_, _*_, _-_, _/_, _%_, _<_, _≤_}
+use Prim.Native.Nat.{ℕ, suc, _+_, _*_, _-_, _/_, _%_, _<_, _≤_}
 use native.Mathlib.Omega.{arith}
-use borrow.Author.Tests.{ltb-false, leb-false, eqb-true, not-false, eq-eqb, ne-eqb}
+use borrow.Author.Tests.{ltb-false, leb-false, eqb-true, not-false, eq-eqb, ne-eqb, le-ltb}
 use lib.Dec.{ltb, eqb}
 use lib.ListN.{length}
 use Rattle.refusals.specs.Lines.{firstLine}
@@ -110,6 +110,13 @@ instance-byte i =
 pub mark-room : (bytes count : ℕ) → line19 bytes count ≡ false → 64 * count + 64 ≤ bytes
 unfolding line19
 mark-room bytes count e = omega (arith, leb-false (bytes / markSize) count e)
+
+-- where neither 17 nor 19 holds, 17 does not hold with one more mark in use
+pub count-next : (bytes count : ℕ) → line17 bytes count ≡ false → line19 bytes count ≡ false → line17 bytes (suc count) ≡ false
+unfolding line17 line19
+count-next bytes count e f =
+    let lawful = neither (ltb mostMarkBytes bytes || not (eqb (bytes % markSize) 0)) (ltb (bytes / markSize) count) e .0 in
+    rw lawful (le-ltb (bytes / markSize) (suc count) (omega (arith, leb-false (bytes / markSize) count f)))
 
 -- where line 17 does not hold, the marks in use fit the buffer
 count-passed : (bytes count : ℕ) → line17 bytes count ≡ false → 64 * count ≤ bytes

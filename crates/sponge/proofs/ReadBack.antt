@@ -1,31 +1,32 @@
 -- Marks read back: after an accepted marking a return to its name gives the state, a return to another name is answered as before, and what
--- an accepted return gives is sound.
-use mathlib.Core.Bool.{true, false, not, _&&_, _||_, cond, and-eq-true-iff}
+-- an accepted return gives is sound. In a list: `BackToMark`.
+use mathlib.Core.Bool.{Bool, true, false, not, _&&_, cond, and-eq-true-iff}
 use mathlib.Core.List.{List, [], _∷_}
 use mathlib.Core.Path.{_≡_, refl, sym, ap, ap₂, _∙_}
-use Prim.Native.Nat.{ℕ, zero, suc, _+_, _*_, _-_, _/_, _%_, _≤_, _<_}
+use Prim.Native.Nat.{ℕ, zero, suc, _+_, _*_, _-_, _≤_, _<_}
 use native.Mathlib.Decide.{ℕ-discrete}
 use native.Mathlib.Nat.{suc-ne-zero, le-refl, le-step}
 use native.Mathlib.Numerals.{add-one}
 use native.Mathlib.Omega.{arith}
-use borrow.Author.Tests.{le-ltb, leb-false, ne-eqb, not-false}
-use lib.Dec.{ltb, eqb}
+use borrow.Author.Tests.{ne-eqb, not-false, not-true}
+use lib.Dec.{eqb}
 use lib.ListN.{length}
 use Rattle.refusals.specs.Lines.{firstLine}
 use Rattle.refusals.specs.Outcome.{accepted, outcome}
-use Rattle.refusals.proofs.FirstLine.{none-holds, neither}
-use Rattle.refusals.proofs.Outcome.{accepted-left}
+use Rattle.refusals.proofs.FirstLine.{none-holds}
+use Rattle.refusals.proofs.Outcome.{refused-left, accepted-left}
 use Rattle.quark.specs.Instance.{isInstance}
 use Rattle.permutation.specs.Lines.{line1}
 use Rattle.sponge.specs.declared.State.{State}
 use Rattle.sponge.specs.Bytes.{same}
 use Rattle.sponge.specs.Soundness.{sound}
-use Rattle.sponge.specs.Marks.{markSize, mostMarkBytes, markOf, nameIn, stateIn, endsInZeros, markAt, withMark, upToLatest, found}
+use Rattle.sponge.specs.Marks.{markSize, markOf, nameIn, stateIn, endsInZeros, markAt, withMark, upToLatest, found}
 use Rattle.sponge.specs.Outcomes.{Result, resultBy, line2, line2Mark, line17, line18, line19, markNumber, markBytes, recallNumber, recallResult}
-use Rattle.sponge.specs.ReadBack.{AfterMarking, SameState, OthersStay, RecallSound, ReadBack}
+use Rattle.sponge.specs.ReadBack.{Marking, SameState, OthersStay, FromSound, RecallSound, leavesName, BackToMark, ReadBack}
 use Rattle.sponge.proofs.Compared.{equal-same}
+use Rattle.sponge.proofs.BackToMark.{back-to-mark}
 use Rattle.sponge.proofs.MarkBytes.{latest-within}
-use Rattle.sponge.proofs.Passed.{mark-room}
+use Rattle.sponge.proofs.Passed.{mark-room, count-next}
 use Rattle.sponge.proofs.WrittenMarks.{in-four-bytes, name-back, length-mark, zeros-back, state-back, length-with-mark, mark-written, earlier-stay}
 
 -- ---- the search
@@ -51,12 +52,19 @@ recall-is : (t : State) (name b : List ℕ) (count : ℕ) → line17 (length b) 
 unfolding recallResult recallNumber line18 firstLine
 recall-is t name b count e = rw e
 
--- where nothing is found, no mark matters
-nothing-found : (t : State) → isInstance (t .instance) ≡ true → sound t ≡ true → (mark mark′ : List ℕ) → recalled t 0 mark ≡ recalled t 0 mark′
-unfolding resultBy firstLine line1 line2
-nothing-found t is-instance is-sound mark mark′ = rw (is-instance, is-sound)
+-- where nothing is found, no mark matters: it is refused by 1, 2 or 18
+nothing-found : (t : State) (mark mark′ : List ℕ) → recalled t 0 mark ≡ recalled t 0 mark′
+unfolding resultBy firstLine
+nothing-found t mark mark′ = by-lines (line1 (t .instance)) (line2 t)
+  where
+    by-lines : (one two : Bool)
+        → resultBy (firstLine ((one, 1) ∷ (two, 2) ∷ (false, 17) ∷ (true, 18) ∷ [])) t (stateIn mark)
+        ≡ resultBy (firstLine ((one, 1) ∷ (two, 2) ∷ (false, 17) ∷ (true, 18) ∷ [])) t (stateIn mark′)
+    by-lines true two = refl
+    by-lines false true = refl
+    by-lines false false = refl
 
-module _ (s t : State) (name buffer : List ℕ) (count : ℕ) (a : AfterMarking s t name buffer count) where
+module _ (s t : State) (name buffer : List ℕ) (count : ℕ) (a : Marking s name buffer count) where
   abbrev mark : List ℕ
   mark = markOf name s
 
@@ -82,11 +90,9 @@ module _ (s t : State) (name buffer : List ℕ) (count : ℕ) (a : AfterMarking 
 
   -- line 17 does not hold with one more mark in use
   lawful : line17 (length b) (count + 1) ≡ false
-  unfolding line17 line19
   lawful =
-      let size : length b ≡ length buffer = ap length written ∙ length-with-mark buffer mark count space long in
-      let parts = neither (ltb mostMarkBytes (length buffer) || not (eqb (length buffer % markSize) 0)) (ltb (length buffer / markSize) count) (passed .2) in
-      rw (size, parts .0) (le-ltb (length buffer / markSize) (count + 1) (omega (arith, leb-false (length buffer / markSize) count (passed .3))))
+      ap₂ line17 (ap length written ∙ length-with-mark buffer mark count space long) (add-one count)
+      ∙ count-next (length buffer) count (passed .2) (passed .3)
 
   mark-there : markAt b count ≡ mark
   mark-there = ap (λ (l : List ℕ). markAt l count) written ∙ mark-written buffer mark count space long
@@ -102,16 +108,16 @@ module _ (s t : State) (name buffer : List ℕ) (count : ℕ) (a : AfterMarking 
       ∙ ap₂ (λ (l : List ℕ) (others : ℕ). cond (same l other) (suc count) others) (ap nameIn mark-there ∙ name-back name s (a .name-16))
       (latest-same other buffer b count others-there)
 
-  same-state : recallResult t name b (count + 1) ≡ record { outcome = accepted tt; state = s }
+  same-state : isInstance (t .instance) ≡ true → sound t ≡ true → recallResult t name b (count + 1) ≡ record { outcome = accepted tt; state = s }
   unfolding found resultBy firstLine line1 line2 line2Mark outcome
-  same-state =
+  same-state is-instance is-sound =
       let upto : upToLatest name b (count + 1) ≡ suc count = latest-next name ∙ rw (equal-same name) in
       let back : suc count - 1 ≡ count = omega arith in
       let mark-is : found name b (count + 1) ≡ mark = ap (λ (n : ℕ). markAt b (n - 1)) upto ∙ ap (markAt b) back ∙ mark-there in
       let state-is : stateIn mark ≡ s = state-back name s (a .name-16) (a .bytes-32) (in-four-bytes s (passed .1)) in
       recall-is t name b (count + 1) lawful
       ∙ ap₂ (recalled t) upto mark-is
-      ∙ rw (a .is-instance, a .is-sound, ne-eqb (suc count) 0 (suc-ne-zero count), state-is, zeros-back name s (a .name-16) (a .bytes-32), passed .0, passed .1)
+      ∙ rw (is-instance, is-sound, ne-eqb (suc count) 0 (suc-ne-zero count), state-is, zeros-back name s (a .name-16) (a .bytes-32), passed .0, passed .1)
 
   others-stay : (other : List ℕ) → same name other ≡ false → recallResult t other b (count + 1) ≡ recallResult t other buffer count
   unfolding found
@@ -128,20 +134,28 @@ module _ (s t : State) (name buffer : List ℕ) (count : ℕ) (a : AfterMarking 
           ≡ recalled t (upToLatest other buffer count) (markAt buffer (upToLatest other buffer count - 1))
       by-found =
           elim (ℕ-discrete (upToLatest other buffer count) 0) [
-            | yes none ↦ rw none (nothing-found t (a .is-instance) (a .is-sound) (markAt b (0 - 1)) (markAt buffer (0 - 1)))
+            | yes none ↦ rw none (nothing-found t (markAt b (0 - 1)) (markAt buffer (0 - 1)))
             | no some ↦ ap (recalled t (upToLatest other buffer count)) (others-there (upToLatest other buffer count - 1) (omega (arith, latest-within other buffer count)))
           ]
 
--- ---- an accepted return gives a sound state
+-- ---- an accepted return: from a sound state, and to one
 
-recall-sound : (s : State) (name buffer : List ℕ) (count : ℕ) → recallNumber s name buffer count ≡ 0 → sound (recallResult s name buffer count .state) ≡ true
-unfolding recallNumber recallResult resultBy line2Mark
+recall-sound : (s : State) (name buffer : List ℕ) (count : ℕ) → recallNumber s name buffer count ≡ 0
+    → (isInstance (recallResult s name buffer count .state .instance) ≡ true) × (sound (recallResult s name buffer count .state) ≡ true)
+unfolding recallNumber recallResult resultBy line1 line2Mark
 recall-sound s name buffer count e =
     let none = none-holds _ refl e in
     let mark = found name buffer count in
-    ap sound (sym (accepted-left _ s (stateIn mark) e))
-    ∙ and-eq-true-iff (endsInZeros mark) (sound (stateIn mark)) .0 (not-false (endsInZeros mark && sound (stateIn mark)) (search none)) .1
+    let back = sym (accepted-left _ s (stateIn mark) e) in (
+      ap (λ (t : State). isInstance (t .instance)) back ∙ not-false (isInstance (stateIn mark .instance)) (search none),
+      ap sound back ∙ and-eq-true-iff (endsInZeros mark) (sound (stateIn mark)) .0 (not-false (endsInZeros mark && sound (stateIn mark)) (search none)) .1,
+    )
+
+from-sound : (s : State) (name buffer : List ℕ) (count : ℕ) → recallNumber s name buffer count ≡ 0 → (isInstance (s .instance) ≡ true) × (sound s ≡ true)
+unfolding recallNumber line1 line2
+from-sound s name buffer count e =
+    let none = none-holds _ refl e in (not-false (isInstance (s .instance)) (search none), not-false (sound s) (search none))
 
 pub read-back : ReadBack
-unfolding SameState OthersStay RecallSound
-read-back = record { same-state = same-state; others-stay = others-stay; recall-sound = recall-sound }
+unfolding SameState OthersStay FromSound RecallSound BackToMark
+read-back = record { same-state = same-state; others-stay = others-stay; from-sound = from-sound; recall-sound = recall-sound; back-to-mark = back-to-mark }

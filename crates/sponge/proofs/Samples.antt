@@ -2,17 +2,20 @@
 use mathlib.Core.Bool.{Bool, true, false}
 use mathlib.Core.List.{List, [], _∷_, _++_}
 use mathlib.Core.Path.{_≡_, refl}
-use Prim.Native.Nat.{ℕ}
+use Prim.Native.Nat.{ℕ, _+_}
 use lib.ListN.{replicate}
 use Rattle.refusals.specs.Lines.{firstLine, line5}
 use Rattle.quark.specs.Bytes.{tabulate, bitAt, bitsOf}
 use Rattle.quark.specs.Instance.{instanceOf, U, D, S, isInstance, isWidth, stateBytes}
 use Rattle.permutation.specs.Lines.{line1, line4}
 use Rattle.sponge.specs.declared.State.{State}
+use Rattle.sponge.specs.declared.Marked.the-variants.{Count, Refused}
+use Rattle.refusals.specs.Outcome.{accepted, refused, outcome}
 use Rattle.sponge.specs.Bytes.{same, fourByteNumber}
 use Rattle.sponge.specs.Soundness.{allZero, soundRuns, mostExtra, sound, allZeros}
-use Rattle.sponge.specs.Marks.{fourBytes, markFields, markOf, nameIn, stateIn, endsInZeros, markAt, upToLatest, found}
-use Rattle.sponge.specs.Outcomes.{line2, line2Mark, line3Squeeze, line6, line7, line8, line14, line15, line17, line18, line19, blocksBytes, squeezeNumber, markNumber, recallNumber, digestNumber}
+use Rattle.sponge.specs.Marks.{fourBytes, markFields, markOf, nameIn, stateIn, endsInZeros, markAt, withMark, upToLatest, found}
+use Rattle.sponge.specs.Outcomes.{line2, line2Mark, line3Squeeze, line6, line7, line8, line14, line15, line17, line18, line19, blocksBytes, squeezeNumber, markNumber, markedOutcome, markOutcome, markBytes, recallNumber, digestNumber}
+use Rattle.sponge.specs.ReadBack.{Marking}
 use Rattle.sponge.specs.Calls.{Message, piece, finish, squeeze, messageNumber, grown, extended}
 use Rattle.sponge.specs.Lists.{Name, on-state, mark, recall, isSaved, latestSaved, messagesNumber, messagesAfter, messagesFrom, messagesOf, messageOf}
 
@@ -121,15 +124,45 @@ pub mark-bytes :
 unfolding markOf markFields fourBytes stateIn fourByteNumber
 mark-bytes = (refl, refl)
 
+-- a mark whose byte j is j, but for its last two: each byte of each field stands at its own offset
+abbrev inPlace : State
+inPlace = record { instance = 16; phase = 17; total = 0x12131415; runs = 0x16171819; extra = 0x1A1B1C1D; bits = tabulate 32 (λ j. 30 + j) }
+
+pub mark-offsets :
+    (markOf (tabulate 16 (λ j. j)) inPlace ≡ tabulate 62 (λ j. j) ++ (0 ∷ 0 ∷ []))
+    × (nameIn (tabulate 64 (λ j. j)) ≡ tabulate 16 (λ j. j)) × (stateIn (tabulate 64 (λ j. j)) ≡ inPlace)
+unfolding markOf markFields fourBytes nameIn stateIn fourByteNumber tabulate
+mark-offsets = (refl, refl, refl)
+
 pub mark-edges :
-    -- no bytes, 64, 64,000 and 64,064, a byte less and more than a mark
-    (line17 0 0 ≡ false) × (line17 64 0 ≡ false) × (line17 64000 0 ≡ false) × (line17 64064 0 ≡ true) × (line17 63 0 ≡ true) × (line17 65 0 ≡ true)
+    -- no bytes, 64, 64,000 and 64,064, a byte less and more than a mark, and a mark and a half
+    (line17 0 0 ≡ false) × (line17 64 0 ≡ false) × (line17 64000 0 ≡ false) × (line17 64064 0 ≡ true) × (line17 63 0 ≡ true) × (line17 65 0 ≡ true) × (line17 96 0 ≡ true)
     -- as many marks in use as there are, and one more
     × (line17 64000 1000 ≡ false) × (line17 64000 1001 ≡ true) × (line17 0 1 ≡ true) × (line17 64 18446744073709551615 ≡ true)
     -- all in use, and one left
     × (line19 0 0 ≡ true) × (line19 64 0 ≡ false) × (line19 64 1 ≡ true) × (line19 64000 999 ≡ false) × (line19 64000 1000 ≡ true)
 unfolding line17 line19
-mark-edges = (refl, refl, refl, refl, refl, refl, refl, refl, refl, refl, refl, refl, refl, refl, refl)
+mark-edges = (refl, refl, refl, refl, refl, refl, refl, refl, refl, refl, refl, refl, refl, refl, refl, refl)
+
+-- what an answer of mark stands for, and the count that it has: one more than were in use
+pub mark-answers :
+    (markedOutcome (Count 2) ≡ accepted 2) × (markedOutcome (Refused (record { number = 19; place = 0 })) ≡ refused 19 0)
+    × (markOutcome (stateAt 1 0 0 0 0 0) 128 1 ≡ accepted 2) × (markOutcome (stateAt 1 0 0 0 0 0) 64 1 ≡ refused 19 0)
+unfolding markedOutcome markOutcome outcome markNumber firstLine line1 line2 line17 line19 sound soundRuns mostExtra allZero isInstance stateBytes instanceOf U
+mark-answers = (refl, refl, refl, refl)
+
+-- the second of three marks is written, and no other byte; refused, none is
+pub written :
+    (markBytes (stateAt 1 0 0 0 0 0) (named 1) (replicate 64 3 ++ replicate 64 4 ++ replicate 64 5) 1
+    ≡ replicate 64 3 ++ markOf (named 1) (stateAt 1 0 0 0 0 0) ++ replicate 64 5)
+    × (markBytes (stateAt 1 0 0 0 0 0) (named 1) (replicate 64 3) 1 ≡ replicate 64 3)
+unfolding markBytes withMark markNumber firstLine line1 line2 line17 line19 sound soundRuns mostExtra allZero isInstance stateBytes instanceOf U
+written = (refl, refl)
+
+-- `ReadBack` speaks of such a marking
+pub marking : Marking (stateAt 1 0 0 0 0 0) (named 1) (replicate 64 0) 0
+unfolding markNumber firstLine line1 line2 line17 line19 sound soundRuns mostExtra allZero isInstance stateBytes instanceOf U
+marking = record { bytes-32 = refl; name-16 = refl; accepted = refl }
 
 -- a mark of a state of no bits taken, with all bits zero, and its last two bytes
 abbrev markWith : (name : List ℕ) (instance phase runs x y : ℕ) → List ℕ
@@ -166,13 +199,14 @@ mark-order = (refl, refl, refl, refl, refl, refl)
 pub recallNumberAt : (instance runs : ℕ) (buffer : List ℕ) (count : ℕ) → ℕ
 recallNumberAt instance runs buffer count = recallNumber (stateAt instance 0 0 runs 0 0) (named 1) buffer count
 
--- a return that several lines refuse answers the first of them. The mark that is found is broken in its instance and its last byte, then in its
--- last byte, in the byte before, and in its runs; a sound one before it is not tried. Then none holds
+-- a return that several lines refuse answers the first of them: 1, 2 and 17 where no mark has the name; then 18. The mark that is found is
+-- broken in its instance and its last byte, then in its last byte, in the byte before, in its runs, in both last bytes, and in its instance; a
+-- sound one before it is not tried. Then none holds
 pub recall-order :
-    (recallNumberAt 0 1 (1 ∷ markWith (named 1) 0 0 0 0 1) 2 ≡ 1)
-    × (recallNumberAt 1 1 (1 ∷ markWith (named 1) 0 0 0 0 1) 2 ≡ 2)
-    × (recallNumberAt 1 0 (1 ∷ markWith (named 1) 0 0 0 0 1) 1 ≡ 17)
-    × (recallNumberAt 1 0 (markWith (named 1) 0 0 0 0 1) 2 ≡ 17)
+    (recallNumberAt 0 1 (1 ∷ markWith (named 2) 0 0 0 0 1) 2 ≡ 1)
+    × (recallNumberAt 1 1 (1 ∷ markWith (named 2) 0 0 0 0 1) 2 ≡ 2)
+    × (recallNumberAt 1 0 (1 ∷ markWith (named 2) 0 0 0 0 1) 1 ≡ 17)
+    × (recallNumberAt 1 0 (markWith (named 2) 0 0 0 0 1) 2 ≡ 17)
     × (recallNumberAt 1 0 (markWith (named 2) 0 0 0 0 1) 1 ≡ 18)
     × (recallNumberAt 1 0 (markWith (named 1) 1 0 0 0 0) 0 ≡ 18)
     × (recallNumberAt 1 0 [] 0 ≡ 18)
@@ -180,10 +214,12 @@ pub recall-order :
     × (recallNumberAt 1 0 (markWith (named 1) 1 0 0 0 1) 1 ≡ 2)
     × (recallNumberAt 1 0 (markWith (named 1) 1 0 0 1 0) 1 ≡ 2)
     × (recallNumberAt 1 0 (markWith (named 1) 1 0 1 0 0) 1 ≡ 2)
+    × (recallNumberAt 1 0 (markWith (named 1) 1 0 0 128 128) 1 ≡ 2)
+    × (recallNumberAt 1 0 (markWith (named 1) 4 0 0 0 0) 1 ≡ 1)
     × (recallNumberAt 1 0 (markWith (named 1) 1 0 0 0 0 ++ markWith (named 1) 0 0 0 0 0) 2 ≡ 1)
     × (recallNumberAt 1 0 (markWith (named 1) 0 0 0 0 0 ++ markWith (named 1) 3 0 0 0 0) 2 ≡ 0)
 unfolding recallNumberAt recallNumber firstLine line1 line2 line17 line18 line2Mark endsInZeros upToLatest found markAt nameIn same markFields fourBytes stateIn fourByteNumber sound soundRuns mostExtra allZero isInstance stateBytes instanceOf U S
-recall-order = (refl, refl, refl, refl, refl, refl, refl, refl, refl, refl, refl, refl, refl)
+recall-order = (refl, refl, refl, refl, refl, refl, refl, refl, refl, refl, refl, refl, refl, refl, refl)
 
 -- ---- a list with marks
 
@@ -197,7 +233,7 @@ B = record { bytes = named 2; sixteen = refl }
 abbrev messageWith : List ℕ → Bool → ℕ → Message
 messageWith bits closed extras = record { bits = bits; closed = closed; extras = extras }
 
--- a bit 1 is taken, and marked as A; then a bit 0, a finish and 2 blocks, marked as B; a third mark is one too many; a return to A opens the
+-- nothing is marked as A yet; a bit 1 is taken, and marked as A; then a bit 0, a finish and 2 blocks, marked as B; a third mark is one too many; a return to A opens the
 -- message again, a bit 1 is taken, and a return to B brings back the closed one with its blocks, to which a squeeze adds one
 pub marked-list :
     messagesOf 1
@@ -212,3 +248,19 @@ pub marked-list :
     }
 unfolding messagesOf messagesFrom messagesAfter messagesNumber isSaved latestSaved same line17 line19 extended messageNumber grown firstLine line4 line5 line6 line7 line14 line15 blocksBytes isWidth stateBytes instanceOf U bitsOf tabulate bitAt
 marked-list = refl
+
+-- the name A twice: a bit 1, marked; a bit 0, marked again; a finish and a block; nothing is marked as B; a return to A brings back the later,
+-- open again, and a bit 1 is taken
+pub marked-twice :
+    messagesOf 1
+    (record {
+      buffer = replicate 192 0;
+      calls = on-state (piece (0b10000000 ∷ []) 1 1) ∷ mark A ∷ on-state (piece (0 ∷ []) 1 8) ∷ mark A ∷ on-state (finish 8 17)
+          ∷ on-state (squeeze 8 1 1) ∷ recall B ∷ recall A ∷ on-state (piece (0b10000000 ∷ []) 1 1) ∷ [];
+    })
+    ≡ record {
+      current = messageWith (1 ∷ 0 ∷ 1 ∷ []) false 0;
+      saved = record { name = A; message = messageWith (1 ∷ 0 ∷ []) false 0 } ∷ record { name = A; message = messageWith (1 ∷ []) false 0 } ∷ [];
+    }
+unfolding messagesOf messagesFrom messagesAfter messagesNumber isSaved latestSaved same line17 line19 extended messageNumber grown firstLine line4 line5 line6 line7 line14 line15 blocksBytes isWidth stateBytes instanceOf U bitsOf tabulate bitAt
+marked-twice = refl

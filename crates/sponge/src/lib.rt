@@ -1,6 +1,6 @@
 // Hashing by pieces of bits (document 01, "Pieces and finish"; QUARK 3.1): a fresh state, pieces, finish, more blocks (document 02, 2.1), marks
 // to come back to (document 02, 2.5), and the whole digest.
-// A state is passed by value and comes back beside the answer. All tests of a call precede all of its work.
+// A state is passed by value and, but for `mark`, one comes back beside the answer. All tests of a call precede all of its work.
 ghost use mathlib.Core.Path.{_≡_};
 ghost use lib.ListN.{length};
 ghost use Rattle.refusals.specs.Outcome.{outcomeOf};

@@ -154,7 +154,7 @@ fn forged_marks(text: &mut String) {
     let name_and_instance = [(0, 65, 0), (15, 65, 0), (16, 1, 0), (16, 0, 0), (16, 2, 0), (16, 4, 0), (16, 255, 1)];
     let phase_and_total = [(17, 0, 0), (17, 2, 0), (17, 2, 128), (18, 1, 0), (21, 23, 0), (21, 24, 0)];
     let runs_and_extra = [(22, 1, 0), (25, 21, 0), (26, 1, 0), (29, 2, 0)];
-    let bits_and_last = [(46, 1, 0), (47, 1, 0), (61, 1, 0), (62, 1, 0), (63, 1, 1), (63, 128, 128)];
+    let bits_and_last = [(46, 1, 0), (47, 1, 0), (61, 1, 0), (62, 1, 0), (62, 128, 128), (63, 1, 1), (63, 128, 128)];
     for (at, value, last) in name_and_instance.into_iter().chain(phase_and_total).chain(runs_and_extra).chain(bits_and_last) {
         forged(text, at, value, last);
     }
