@@ -7,14 +7,11 @@ use crate::text::write_output;
 use crate::text::write_state;
 use refusals::number_of;
 use sponge::Marked;
+use sponge::Reply;
 use sponge::State;
 
-// A marking after the first `count` marks: the new count, or the refusal's number. The count after it comes back, the old one where it is
-// refused.
-pub fn write_mark(state: State, name: [u8; 16], buffer: &mut [u8], count: usize) -> usize {
-    let marked = sponge::mark(state, name, buffer, count);
-    write_number(b"mark in ", buffer.len() as u64);
-    write_number(b" bytes after ", count as u64);
+// The new count, or the refusal's number. The count after the marking comes back, which had `count` marks before it.
+fn write_marked(marked: Marked, count: usize) -> usize {
     match marked {
         Marked::Count(next) => {
             write_number(b": count ", next as u64);
@@ -27,16 +24,28 @@ pub fn write_mark(state: State, name: [u8; 16], buffer: &mut [u8], count: usize)
     }
 }
 
-// A return to a mark among the first `count`: its number, and the state that comes back.
-pub fn write_recall(state: State, name: [u8; 16], buffer: &[u8], count: usize) -> State {
-    let reply = sponge::recall(state, name, buffer, count);
+// A marking after the first `count` marks: the new count, or the refusal's number. The count after it comes back, the old one where it is
+// refused.
+pub fn write_mark(state: State, name: [u8; 16], buffer: &mut [u8], count: usize) -> usize {
+    write_number(b"mark in ", buffer.len() as u64);
+    write_number(b" bytes after ", count as u64);
+    write_marked(sponge::mark(state, name, buffer, count), count)
+}
+
+// The number of a reply, and the state in it, which comes back.
+fn write_reply(reply: Reply) -> State {
     let answer = reply.answer;
     let next = reply.state;
-    write_number(b"recall among ", count as u64);
     write_number(b": ", number_of(answer) as u64);
     write(b", ");
     write_state(next);
     next
+}
+
+// A return to a mark among the first `count`: its number, and the state that comes back.
+pub fn write_recall(state: State, name: [u8; 16], buffer: &[u8], count: usize) -> State {
+    write_number(b"recall among ", count as u64);
+    write_reply(sponge::recall(state, name, buffer, count))
 }
 
 // A finish: its number and the digest. The closed state comes back.

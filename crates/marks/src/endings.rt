@@ -61,12 +61,17 @@ fn write_closed(closed: State, buffer: &mut [u8]) {
     write_found(five, buffer);
 }
 
+// The state after the preamble.
+fn after_preamble(instance: u32) -> State {
+    let reply = sponge::init(instance);
+    let taken = sponge::absorb(reply.state, 8, b"lamp l", 44);
+    taken.state
+}
+
 // An instance, with a buffer for three marks, of which one stays as it is.
 pub fn write_instance(instance: u32, buffer: &mut [u8]) {
     write_number(b"instance ", instance as u64);
     write(b"\n");
-    let reply = sponge::init(instance);
-    let taken = sponge::absorb(reply.state, 8, b"lamp l", 44);
-    let closed = write_open(taken.state, buffer);
+    let closed = write_open(after_preamble(instance), buffer);
     write_closed(closed, buffer);
 }

@@ -41,17 +41,28 @@ pub fn write_bytes(bytes: &[u8]) {
     }
 }
 
+// The fields of a state but its bits, and a newline.
+fn write_fields(instance: u32, phase: u32, total: u32, runs: u32, extra: u32) {
+    write_number(b", instance ", instance as u64);
+    write_number(b", phase ", phase as u64);
+    write_number(b", total ", total as u64);
+    write_number(b", runs ", runs as u64);
+    write_number(b", extra ", extra as u64);
+    write(b"\n");
+}
+
 // The fields of a state, and a newline. The bits come first: the prover finds the length of an array that is lent here, and not of one that
 // is lent after other calls.
 pub fn write_state(state: State) {
     let bits = state.bits;
     write_bytes(&bits);
-    write_number(b", instance ", state.instance as u64);
-    write_number(b", phase ", state.phase as u64);
-    write_number(b", total ", state.total as u64);
-    write_number(b", runs ", state.runs as u64);
-    write_number(b", extra ", state.extra as u64);
-    write(b"\n");
+    write_fields(
+        state.instance,
+        state.phase,
+        state.total,
+        state.runs,
+        state.extra,
+    );
 }
 
 // A text, the number of an answer, the first `length` bytes of what was written, and a newline.
