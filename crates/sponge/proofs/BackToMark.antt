@@ -1,5 +1,5 @@
 -- In a list a return brings back what its marking saved: nothing but a marking under the same name comes between.
-use mathlib.Core.Bool.{Bool, true, false, not, _&&_, cond, and-eq-true-iff}
+use mathlib.Core.Bool.{Bool, true, false, not, cond, and-eq-true-iff}
 use mathlib.Core.List.{List, [], _∷_}
 use mathlib.Core.Path.{_≡_, refl, sym, subst}
 use Prim.Native.Nat.{ℕ}
@@ -11,7 +11,7 @@ use Rattle.refusals.specs.Lines.{firstLine}
 use Rattle.refusals.proofs.FirstLine.{none-holds}
 use Rattle.refusals.proofs.Outcome.{refused-left, accepted-left}
 use Rattle.sponge.specs.Bytes.{same}
-use Rattle.sponge.specs.Outcomes.{line17, line19}
+use Rattle.sponge.specs.Outcomes.{line17}
 use Rattle.sponge.specs.Calls.{Call, Message}
 use Rattle.sponge.specs.Lists.{Name, ListCall, on-state, mark, recall, Saved, Messages, isSaved, latestSaved, messagesNumber, messagesAfter, messagesFrom}
 use Rattle.sponge.specs.ReadBack.{leavesName, BackToMark}
@@ -57,11 +57,11 @@ module _ (i bytes : ℕ) (name : Name) (m : Message) where
   -- a return saves nothing
   recall-saves : (x : Messages) (other : Name) → messagesAfter i bytes x (recall other) .saved ≡ x .saved
   unfolding messagesAfter
-  recall-saves x other = either (eqb (messagesNumber i bytes x (recall other)) 0)
+  recall-saves x other = either-way (eqb (messagesNumber i bytes x (recall other)) 0) x _ refl
     where
-      either : (t : Bool) → cond {A = Messages} t (record { current = latestSaved other (x .saved) (x .current); saved = x .saved }) x .saved ≡ x .saved
-      either true = refl
-      either false = refl
+      either-way : (t : Bool) (x y : Messages) → y .saved ≡ x .saved → cond t y x .saved ≡ x .saved
+      either-way true x y e = e
+      either-way false x y e = refl
 
   -- a piece, a finish or a squeeze saves nothing
   on-state-saves : (x : Messages) (call : Call) → Saves (x .saved) → Saves (messagesAfter i bytes x (on-state call) .saved)
