@@ -8,7 +8,7 @@ mod forged;
 mod states;
 mod text;
 
-// An instance, with a fresh buffer for three marks.
+// An instance, with a buffer for three marks, whose bytes are 165.
 fn write_instance(instance: u32) {
     let mut buffer: [u8; 192] = [165; 192];
     endings::write_instance(instance, &mut buffer);

@@ -27,7 +27,7 @@ use Rattle.sponge.specs.Marks.{markSize, markOf, nameIn, stateIn, endsIn
 use Rattle.sponge.specs.Outcomes.{line2, line2Mark, line17, line18, line19, resultBy, markNumber, markOutcome, markBytes, recallNumber, recallResult}
 use Rattle.sponge.specs.Calls.{Message}
 use Rattle.sponge.specs.Lists.{Name, ListCall, on-state, mark, recall, CallList, ListState, listNumber, countAfter, listAfter, runFrom, run, Saved, Messages, isSaved, latestSaved, messagesNumber, messagesAfter, messagesFrom, messagesOf}
-use Rattle.sponge.proofs.Passed.{mark-room}
+use Rattle.sponge.proofs.Passed.{mark-room, foundLines}
 use Rattle.sponge.proofs.WrittenMarks.{in-four-bytes, name-back, length-mark, zeros-back, state-back, length-with-mark, mark-written, earlier-stay, rest-stays}
 use Rattle.sponge.proofs.Messages.{stateOf, Admissible, admissible-empty, sound-message, init-empty, refused-adds-nothing, refused-keeps, same-number, after-call, admissible-after}
 
@@ -231,16 +231,11 @@ module _ (i : ℕ) (is-instance : isInstance i ≡ true) where
         unfolding found
         found-zeros p = ap endsInZeros (p .mark-is) ∙ zeros-back (p .name .bytes) (stateOf i back) (p .name .sixteen) (long-state back)
 
-        -- the lines of the mark that is found
-        abbrev later : List (Bool × ℕ)
-        later =
-            (line18 (name .bytes) b c, 18) ∷ (line1 (stateIn (found (name .bytes) b c) .instance), 1) ∷ (line2Mark (found (name .bytes) b c), 2) ∷ []
-
         recall-answer-by : isMissing ⊎ isPresent → listNumber h (recall name) ≡ messagesNumber i (length first) m (recall name)
         unfolding listNumber messagesNumber recallNumber firstLine line18 line1 line2Mark stateOf stateWith
-        recall-answer-by (inl p) = front later ∙ rw (p .none-saved, p .none-found)
+        recall-answer-by (inl p) = front (foundLines (name .bytes) b c) ∙ rw (p .none-saved, p .none-found)
         recall-answer-by (inr p) =
-            front later ∙ rw (p .some-saved, p .some-found, found-state p, found-zeros p, is-instance, sound-message i back (p .within))
+            front (foundLines (name .bytes) b c) ∙ rw (p .some-saved, p .some-found, found-state p, found-zeros p, is-instance, sound-message i back (p .within))
 
         looked-up : isMissing ⊎ isPresent
         looked-up = look-up name (m .saved) b (m .current) (has-marks .marks)

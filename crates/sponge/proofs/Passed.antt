@@ -156,7 +156,7 @@ lines-of-last buffer mark upto some e = rw (e, ne-eqb upto 0 some)
 abbrev frontLines : State → (bytes count : ℕ) → List (Bool × ℕ)
 frontLines s bytes count = (line1 (s .instance), 1) ∷ (line2 s, 2) ∷ (line17 bytes count, 17) ∷ []
 
-abbrev foundLines : (name buffer : List ℕ) (count : ℕ) → List (Bool × ℕ)
+abbrev pub foundLines : (name buffer : List ℕ) (count : ℕ) → List (Bool × ℕ)
 foundLines name buffer count =
     (line18 name buffer count, 18) ∷ (line1 (stateIn (found name buffer count) .instance), 1) ∷ (line2Mark (found name buffer count), 2) ∷ []
 
