@@ -3,6 +3,7 @@
 
 pub mod appendix_b;
 pub mod clock_sets;
+pub mod clocks_text;
 pub mod digest;
 pub mod hexadecimal;
 pub mod journal;
@@ -15,5 +16,6 @@ pub mod pieces_text;
 
 pub mod random;
 pub mod sample;
+pub mod steps;
 
 pub use permutation::{invert, permute, state_bytes};

@@ -11,7 +11,7 @@ const TAPE: usize = 128 + 1024;
 const L_TAPE: usize = 10 + 1024;
 
 /// One instance of QUARK (section 3.3). The registers are windows of b/2 cells, cell 0 first.
-trait Instance {
+pub(crate) trait Instance {
     /// b/2, the length of X and of Y.
     const HALF: usize;
     /// The taps that stand in f for U's 0, 9, 14, 15, 21, 28, 33, 37, 45, 50, 52, 55, 59.
@@ -22,9 +22,9 @@ trait Instance {
     fn h(x: &[u8], y: &[u8], l: u8) -> u8;
 }
 
-struct U;
-struct D;
-struct S;
+pub(crate) struct U;
+pub(crate) struct D;
+pub(crate) struct S;
 
 impl Instance for U {
     const HALF: usize = 68;
@@ -75,7 +75,7 @@ impl Instance for S {
 /// f of the register x. The names are U's taps: X14 is added, X15 stands in products.
 #[inline(always)]
 #[rustfmt::skip]
-fn f<I: Instance>(x: &[u8]) -> u8 {
+pub(crate) fn f<I: Instance>(x: &[u8]) -> u8 {
     let t = I::F;
     let (x0, x9, x14, x15, x21) = (x[t[0]], x[t[1]], x[t[2]], x[t[3]], x[t[4]]);
     let (x28, x33, x37, x45, x50) = (x[t[5]], x[t[6]], x[t[7]], x[t[8]], x[t[9]]);
@@ -89,7 +89,7 @@ fn f<I: Instance>(x: &[u8]) -> u8 {
 /// g of the register y. The names are U's taps: Y16 is added, Y15 stands in products.
 #[inline(always)]
 #[rustfmt::skip]
-fn g<I: Instance>(y: &[u8]) -> u8 {
+pub(crate) fn g<I: Instance>(y: &[u8]) -> u8 {
     let t = I::G;
     let (y0, y7, y15, y16, y20) = (y[t[0]], y[t[1]], y[t[2]], y[t[3]], y[t[4]]);
     let (y30, y35, y37, y42, y49) = (y[t[5]], y[t[6]], y[t[7]], y[t[8]], y[t[9]]);
@@ -101,7 +101,7 @@ fn g<I: Instance>(y: &[u8]) -> u8 {
 }
 
 /// State bit i of the byte form: byte i div 8, weight 2 to the (7 - i mod 8).
-fn bit(bytes: &[u8], i: usize) -> u8 {
+pub(crate) fn bit(bytes: &[u8], i: usize) -> u8 {
     bytes[i / 8] >> (7 - i % 8) & 1
 }
 

@@ -26,11 +26,12 @@ pub struct State {
     pub bits: [u8; 32],
 }
 
-fn is_instance(instance: u32) -> bool {
+/// Line 1 does not hold.
+pub(crate) fn is_instance(instance: u32) -> bool {
     (1..=3).contains(&instance)
 }
 
-/// Line 4.
+/// Line 4 does not hold.
 pub fn is_width(instance: u32, width: u32) -> bool {
     width == 1 || width == 8 || width == 16 && instance == 3
 }
