@@ -1,24 +1,32 @@
 /*
- * Wilbroged for C and C++: QUARK's permutation, its inverse and its digest, sealed records and the journal check.
+ * Wilbroged for C and C++: QUARK's permutation and its inverse, whole or some of their steps, its digest, sealed records and the journal
+ * check.
  *
  * Link target/staticlib/libwilbroged.a, which `rt staticlib wilbroged` writes; it is for Linux on x86-64, and of the C library it needs
  * memcpy and memmove. The functions are those of crates/wilbroged, each proved to meet its contract there for every input; its comment here
  * puts the contract into words. docs/RULES.md explains the rules and every refusal.
  *
  * Answers (journal_refused_at apart). WILBROGED_ACCEPTED, or the number of the first refusal that holds, in the order that the function's
- * comment gives. A refused call writes nothing, so that its buffer still holds what it held before: look at the answer before you use the
- * buffer. A compiler that can warn about an ignored answer does. An accepted call writes the buffer that its comment names, if any, and
- * nothing else.
+ * comment gives. A refused call writes nothing, so that its buffer, and the number that l_after points to, still hold what they held
+ * before: look at the answer before you use them. A compiler that can warn about an ignored answer does. An accepted call writes what its
+ * comment names, if anything, and nothing else.
  *
  * Step widths. How many steps of the permutation are taken together: 1 or 8, and 16 for S-QUARK alone. Every width gives the same bytes;
  * the widest is the fastest.
  *
  * Bits. Bit i of a state or a message is in byte i div 8, with weight 2 to the (7 - i mod 8): the highest bit of a byte is its first.
  *
+ * Registers. The steps of the permutation P work on three: X is the first half of a state, Y the second, and L has ten bits of its own. L's
+ * value is a number in which bit 0 has weight 512 and bit 9 weight 1.
+ *
  * Slices. A slice of bytes is a pointer and a length, NAME and NAME_len, and needs no alignment. The pointer must be good for as many bytes
  * as the length says, and where that is 0 it may be any pointer, NULL too.
  *
- * Overlap. A buffer that is written (one without const) must not overlap another argument of the same call, in any function.
+ * Numbers. l_after points to one number. It must be good for a uint32_t and aligned for it in every call, a refused one too, so it is never
+ * NULL.
+ *
+ * Overlap. What is written (through a pointer without const) must not overlap another argument of the same call, in any function; so
+ * *l_after must not lie in the state.
  *
  * Threads. No function keeps a state of its own or allocates memory, so threads may call all of them at the same time, as long as no call
  * writes bytes that another call reads or writes.
@@ -34,18 +42,27 @@
 #include <stdint.h>
 
 /* The version of the project, of which this header and the archive are a part. */
-#define WILBROGED_VERSION "0.3.0"
+#define WILBROGED_VERSION "0.4.0"
 
-/* U-QUARK, D-QUARK and S-QUARK: the number of the instance, the bytes of a state and of a digest, and the widest step width. */
+/*
+ * U-QUARK, D-QUARK and S-QUARK: the number of the instance, the bytes of a state and of a digest, the widest step width, and the steps of
+ * the permutation.
+ */
 #define WILBROGED_U 1
 #define WILBROGED_U_BYTES 17
 #define WILBROGED_U_WIDTH 8
+#define WILBROGED_U_STEPS 544
 #define WILBROGED_D 2
 #define WILBROGED_D_BYTES 22
 #define WILBROGED_D_WIDTH 8
+#define WILBROGED_D_STEPS 704
 #define WILBROGED_S 3
 #define WILBROGED_S_BYTES 32
 #define WILBROGED_S_WIDTH 16
+#define WILBROGED_S_STEPS 1024
+
+/* The value of the register L at the start of the permutation: all ones. It is the greatest. */
+#define WILBROGED_L_ALL_ONES 1023
 
 /* The lengths of a journal's parts. A record is a body and its seal; the longest journal has 1,600 records. */
 #define WILBROGED_KEY_BYTES 16
@@ -79,6 +96,8 @@
 #define WILBROGED_DIFFERENT_SEAL 12
 /* Every byte of the key is zero. */
 #define WILBROGED_BLANK_KEY 16
+/* L's start value is over 1,023, or the steps are more than P's or not whole groups of the step width. */
+#define WILBROGED_STEPS_OUT_OF_RANGE 20
 
 /* Stands before a function whose answer says whether the call was refused: a warning where the answer is ignored. */
 #if (defined(__cplusplus) && __cplusplus >= 201703L) || (defined(__STDC_VERSION__) && __STDC_VERSION__ >= 202311L)
@@ -106,6 +125,27 @@ uint32_t quark_permute(uint32_t instance, uint32_t width, uint8_t *state, size_t
  */
 WILBROGED_NODISCARD
 uint32_t quark_invert(uint32_t instance, uint32_t width, uint8_t *state, size_t state_len);
+
+/*
+ * Overwrites a state by what count steps of the permutation make of it, where L has the value l before them, and writes L's value after
+ * them to *l_after. From WILBROGED_L_ALL_ONES, as many steps as the instance has (WILBROGED_U_STEPS and so on) are quark_permute. A further
+ * call with the state and the value of L that this one leaves goes on where this one stopped: two calls do what one does with both counts
+ * together. A count of 0 and an l of 0 are lawful; from 0, L stays 0.
+ * Refuses by 1, 4, 20 (l is over 1,023, or count is over the instance's steps or no multiple of width) and 5 (state_len is not the
+ * instance's), in this order. A refused call leaves *l_after alone.
+ */
+WILBROGED_NODISCARD
+uint32_t quark_steps(uint32_t instance, uint32_t width, uint32_t l, uint32_t count, uint8_t *state, size_t state_len, uint32_t *l_after);
+
+/*
+ * Overwrites a state by the one from before count steps of the permutation. l is L's value before those steps, and not after them: this
+ * undoes quark_steps with the same l and count, whichever widths the two calls take. It gives no value of L. With WILBROGED_L_ALL_ONES and
+ * as many steps as the instance has it is quark_invert.
+ * Refuses by 1, 4, 20 (l is over 1,023, or count is over the instance's steps or no multiple of width) and 5 (state_len is not the
+ * instance's), in this order.
+ */
+WILBROGED_NODISCARD
+uint32_t quark_steps_back(uint32_t instance, uint32_t width, uint32_t l, uint32_t count, uint8_t *state, size_t state_len);
 
 /*
  * Writes the digest of the first bit_count bits of the message, and ignores what comes after them. bit_count counts bits and not bytes: it

@@ -1,7 +1,8 @@
 /*
  * A host in C, as the supplier's would be: it knows the header and links the archive. It checks permutation, inverse, digest and journal
- * against values typed from the paper's Appendix B (document 001) and against the sample journal, whose path is its argument. The last
- * line is 'N passed, M failed'; the exit status is 0 only where M is 0 and N is not.
+ * against values typed from the paper's Appendix B (document 001) and against the sample journal, whose path is its argument, and steps of
+ * the permutation against values typed from crates/clocks/stdout. The last line is 'N passed, M failed'; the exit status is 0 only where M
+ * is 0 and N is not.
  *
  * It is C99 and C++17 at once; hosts/c/test builds and runs it as both.
  */
@@ -41,29 +42,39 @@ static int all(const uint8_t *bytes, size_t length, uint8_t value) {
 /* The longest digest, and one byte more. */
 #define ROOM (WILBROGED_S_BYTES + 1)
 
-/* Appendix B: two states, one permutation apart, and the digest of the empty message. */
+/*
+ * Appendix B: two states, one permutation apart, and the digest of the empty message. Between the two: the state after 16 steps, and L's
+ * value after all of them.
+ */
 struct instance {
     uint32_t number;
     size_t bytes;
     uint32_t widths[3];
     size_t width_count;
+    uint32_t steps;
+    uint32_t l_at_end;
     uint8_t state[WILBROGED_S_BYTES];
+    uint8_t at_16[WILBROGED_S_BYTES];
     uint8_t permuted[WILBROGED_S_BYTES];
     uint8_t empty_digest[WILBROGED_S_BYTES];
 };
 
 static const struct instance instances[3] = {
-    {WILBROGED_U, WILBROGED_U_BYTES, {1, WILBROGED_U_WIDTH, 0}, 2,
+    {WILBROGED_U, WILBROGED_U_BYTES, {1, WILBROGED_U_WIDTH, 0}, 2, WILBROGED_U_STEPS, 0x2B7,
      {0xD8, 0xDA, 0xCA, 0x44, 0x41, 0x4A, 0x09, 0x97, 0x19, 0xC8, 0x0A, 0xA3, 0xAF, 0x06, 0x56, 0x44, 0x5B},
+     {0xCA, 0x44, 0x41, 0x4A, 0x09, 0x97, 0x13, 0x4F, 0xCA, 0xA3, 0xAF, 0x06, 0x56, 0x44, 0x5B, 0x11, 0x3C},
      {0x9A, 0x03, 0xA9, 0xDE, 0xFB, 0xB9, 0xED, 0x38, 0x67, 0xDA, 0xB1, 0x8E, 0xC0, 0x39, 0x27, 0x62, 0x12},
      {0x12, 0x6B, 0x75, 0xBC, 0xAB, 0x23, 0x14, 0x47, 0x50, 0xD0, 0x8B, 0xA3, 0x13, 0xBB, 0xD8, 0x00, 0xA4}},
-    {WILBROGED_D, WILBROGED_D_BYTES, {1, WILBROGED_D_WIDTH, 0}, 2,
+    {WILBROGED_D, WILBROGED_D_BYTES, {1, WILBROGED_D_WIDTH, 0}, 2, WILBROGED_D_STEPS, 0x232,
      {0xCC, 0x6C, 0x4A, 0xB7, 0xD1, 0x1F, 0xA9, 0xBD, 0xF6, 0xEE, 0xDE, 0x03, 0xD8, 0x7B, 0x68, 0xF9, 0x1B, 0xAA, 0x70, 0x6C, 0xA0, 0xE9},
+     {0x4A, 0xB7, 0xD1, 0x1F, 0xA9, 0xBD, 0xF6, 0xEE, 0xDE, 0x32, 0x9C, 0x7B, 0x68, 0xF9, 0x1B, 0xAA, 0x70, 0x6C, 0xA0, 0xE9, 0x83, 0x73},
      {0xE1, 0xAF, 0xDD, 0xED, 0x75, 0xF7, 0x2D, 0x33, 0xAE, 0x3F, 0x60, 0xD3, 0xA1, 0xA9, 0xE9, 0xFA, 0x75, 0x9A, 0xC6, 0xF0, 0x82, 0xC7},
      {0x82, 0xC7, 0xF3, 0x80, 0xE2, 0x31, 0x57, 0x8E, 0x2F, 0xF4, 0xC2, 0xA4, 0x02, 0xE1, 0x8B, 0xF3, 0x7A, 0xEA, 0x84, 0x77, 0x29, 0x8D}},
-    {WILBROGED_S, WILBROGED_S_BYTES, {1, 8, WILBROGED_S_WIDTH}, 3,
+    {WILBROGED_S, WILBROGED_S_BYTES, {1, 8, WILBROGED_S_WIDTH}, 3, WILBROGED_S_STEPS, 0x3FE,
      {0x39, 0x72, 0x51, 0xCE, 0xE1, 0xDE, 0x8A, 0xA7, 0x3E, 0xA2, 0x62, 0x50, 0xC6, 0xD7, 0xBE, 0x12,
       0x8C, 0xD3, 0xE7, 0x9D, 0xD7, 0x18, 0xC2, 0x4B, 0x8A, 0x19, 0xD0, 0x9C, 0xA4, 0x92, 0xDA, 0x5D},
+     {0x51, 0xCE, 0xE1, 0xDE, 0x8A, 0xA7, 0x3E, 0xA2, 0x62, 0x50, 0xC6, 0xD7, 0xBE, 0x12, 0xC5, 0xD1,
+      0xE7, 0x9D, 0xD7, 0x18, 0xC2, 0x4B, 0x8A, 0x19, 0xD0, 0x9C, 0xA4, 0x92, 0xDA, 0x5D, 0x50, 0xF5},
      {0x3D, 0x63, 0xF5, 0x41, 0x00, 0xA7, 0xBC, 0x51, 0x35, 0x69, 0x2F, 0x3B, 0xDE, 0x15, 0x63, 0xF7,
       0x99, 0x8A, 0x69, 0x65, 0xFE, 0x6D, 0x26, 0xAB, 0x40, 0x26, 0x2D, 0x20, 0x03, 0x25, 0x62, 0x14},
      {0x03, 0x25, 0x62, 0x14, 0xB9, 0x2E, 0x81, 0x1C, 0x32, 0x1A, 0xE8, 0x6B, 0xAB, 0x4B, 0x0E, 0x7A,
@@ -106,6 +117,106 @@ static void permutation_refusals(void) {
     CHECK(buffer_refusal(3, 16, 33) == WILBROGED_WRONG_LENGTH);
     CHECK(quark_permute(1, 8, NULL, 0) == WILBROGED_WRONG_LENGTH);
     CHECK(quark_invert(1, 8, NULL, 0) == WILBROGED_WRONG_LENGTH);
+}
+
+/* L's value after 16 steps from all ones: its bits are 0111000011. */
+#define L_AT_16 0x1C3
+
+/* What stands in the number of L's value before a call. */
+#define L_BEFORE 0xA5A5A5A5
+
+/* Whether steps from one state lead to another and to a value of L, and are undone; nothing beside the state and L's value is written. */
+static int stepped(const struct instance *in, uint32_t width, uint32_t l, uint32_t steps, const uint8_t *start, const uint8_t *end,
+                   uint32_t l_after) {
+    uint8_t state[ROOM];
+    uint32_t found[3] = {L_BEFORE, L_BEFORE, L_BEFORE};
+    memset(state, BEFORE, ROOM);
+    memcpy(state, start, in->bytes);
+    return quark_steps(in->number, width, l, steps, state, in->bytes, &found[1]) == WILBROGED_ACCEPTED
+        && memcmp(state, end, in->bytes) == 0 && found[1] == l_after && found[0] == L_BEFORE && found[2] == L_BEFORE
+        && quark_steps_back(in->number, width, l, steps, state, in->bytes) == WILBROGED_ACCEPTED
+        && memcmp(state, start, in->bytes) == 0 && all(state + in->bytes, ROOM - in->bytes, BEFORE);
+}
+
+static void steps_at_each_width(void) {
+    size_t i, w;
+    for (i = 0; i < 3; i++) {
+        const struct instance *in = &instances[i];
+        for (w = 0; w < in->width_count; w++) {
+            const uint32_t width = in->widths[w];
+            CHECK(stepped(in, width, WILBROGED_L_ALL_ONES, 16, in->state, in->at_16, L_AT_16));
+            CHECK(stepped(in, width, WILBROGED_L_ALL_ONES, in->steps, in->state, in->permuted, in->l_at_end));
+            /* going on after 16 steps */
+            CHECK(stepped(in, width, L_AT_16, in->steps - 16, in->at_16, in->permuted, in->l_at_end));
+            /* no steps, and L of zeros */
+            CHECK(stepped(in, width, L_AT_16, 0, in->state, in->state, L_AT_16));
+            CHECK(stepped(in, width, 0, 0, in->state, in->state, 0));
+        }
+    }
+}
+
+/* One step of a state of zeros: bit 0 of L, with weight 512, becomes the last bit of X and of Y, and bit 9 has no part yet. */
+static void one_step_of_zeros(void) {
+    size_t i;
+    for (i = 0; i < 3; i++) {
+        const struct instance *in = &instances[i];
+        const size_t last_of_x = 4 * in->bytes - 1;
+        uint8_t before[WILBROGED_S_BYTES] = {0}, after[WILBROGED_S_BYTES] = {0};
+        CHECK(stepped(in, 1, 1, 1, before, after, 2));
+        after[last_of_x / 8] = (uint8_t)(0x80 >> last_of_x % 8);
+        after[in->bytes - 1] = 1;
+        CHECK(stepped(in, 1, 512, 1, before, after, 1));
+        CHECK(stepped(in, 1, WILBROGED_L_ALL_ONES, 1, before, after, 1022));
+    }
+}
+
+/* Refusals of steps and of their undoing: the number of both, or 99 where they differ or something was written. */
+static uint32_t steps_refusal(uint32_t instance, uint32_t width, uint32_t l, uint32_t steps, size_t length) {
+    uint8_t state[ROOM];
+    uint32_t forward, back, l_after = L_BEFORE;
+    memset(state, BEFORE, ROOM);
+    forward = quark_steps(instance, width, l, steps, state, length, &l_after);
+    back = quark_steps_back(instance, width, l, steps, state, length);
+    return forward == back && all(state, ROOM, BEFORE) && l_after == L_BEFORE ? forward : 99;
+}
+
+static void steps_refusals(void) {
+    uint32_t l_after = L_BEFORE;
+    size_t i;
+    CHECK(steps_refusal(0, 8, 1023, 16, 17) == WILBROGED_UNKNOWN_INSTANCE);
+    CHECK(steps_refusal(4, 8, 1023, 16, 17) == WILBROGED_UNKNOWN_INSTANCE);
+    CHECK(steps_refusal(257, 8, 1023, 16, 17) == WILBROGED_UNKNOWN_INSTANCE);
+    for (i = 0; i < 3; i++) {
+        const uint32_t number = instances[i].number, steps = instances[i].steps;
+        const size_t bytes = instances[i].bytes;
+        CHECK(steps_refusal(number, 0, 1023, 16, bytes) == WILBROGED_UNKNOWN_WIDTH);
+        CHECK(steps_refusal(number, 0, 1023, 0, bytes) == WILBROGED_UNKNOWN_WIDTH);
+        CHECK(steps_refusal(number, 264, 1023, 264, bytes) == WILBROGED_UNKNOWN_WIDTH);
+        CHECK(steps_refusal(number, 8, 1024, 16, bytes) == WILBROGED_STEPS_OUT_OF_RANGE);
+        CHECK(steps_refusal(number, 8, 1024, 0, bytes) == WILBROGED_STEPS_OUT_OF_RANGE);
+        CHECK(steps_refusal(number, 8, UINT32_MAX, 16, bytes) == WILBROGED_STEPS_OUT_OF_RANGE);
+        CHECK(steps_refusal(number, 1, 1023, steps + 1, bytes) == WILBROGED_STEPS_OUT_OF_RANGE);
+        CHECK(steps_refusal(number, 8, 1023, steps + 8, bytes) == WILBROGED_STEPS_OUT_OF_RANGE);
+        CHECK(steps_refusal(number, 8, 1023, UINT32_MAX - 7, bytes) == WILBROGED_STEPS_OUT_OF_RANGE);
+        CHECK(steps_refusal(number, 8, 1023, 7, bytes) == WILBROGED_STEPS_OUT_OF_RANGE);
+        CHECK(steps_refusal(number, 8, 1023, steps - 4, bytes) == WILBROGED_STEPS_OUT_OF_RANGE);
+        CHECK(steps_refusal(number, 8, 1023, 16, 0) == WILBROGED_WRONG_LENGTH);
+        CHECK(steps_refusal(number, 8, 1023, 16, bytes - 1) == WILBROGED_WRONG_LENGTH);
+        CHECK(steps_refusal(number, 8, 1023, 16, bytes + 1) == WILBROGED_WRONG_LENGTH);
+        CHECK(steps_refusal(number, 8, 0, 0, bytes - 1) == WILBROGED_WRONG_LENGTH);
+        CHECK(steps_refusal(number, 1, 1023, steps, bytes + 1) == WILBROGED_WRONG_LENGTH);
+        /* where several hold, the first of 1, 4, 20, 5 */
+        CHECK(steps_refusal(0, 0, 1024, steps + 1, bytes - 1) == WILBROGED_UNKNOWN_INSTANCE);
+        CHECK(steps_refusal(number, 0, 1024, steps + 1, bytes - 1) == WILBROGED_UNKNOWN_WIDTH);
+        CHECK(steps_refusal(number, 8, 1024, 16, bytes - 1) == WILBROGED_STEPS_OUT_OF_RANGE);
+        CHECK(steps_refusal(number, 8, 1023, steps + 8, bytes - 1) == WILBROGED_STEPS_OUT_OF_RANGE);
+        CHECK(steps_refusal(number, 8, 1023, 7, bytes - 1) == WILBROGED_STEPS_OUT_OF_RANGE);
+    }
+    CHECK(steps_refusal(1, 16, 1023, 16, 17) == WILBROGED_UNKNOWN_WIDTH);
+    CHECK(steps_refusal(2, 16, 1023, 16, 22) == WILBROGED_UNKNOWN_WIDTH);
+    CHECK(steps_refusal(3, 16, 1023, 8, 32) == WILBROGED_STEPS_OUT_OF_RANGE);
+    CHECK(quark_steps(1, 8, 1023, 16, NULL, 0, &l_after) == WILBROGED_WRONG_LENGTH && l_after == L_BEFORE);
+    CHECK(quark_steps_back(1, 8, 1023, 16, NULL, 0) == WILBROGED_WRONG_LENGTH);
 }
 
 static void empty_digests(void) {
@@ -487,6 +598,9 @@ int main(int argc, char **argv) {
 
     permutations();
     permutation_refusals();
+    steps_at_each_width();
+    one_step_of_zeros();
+    steps_refusals();
     empty_digests();
     digest_refusals();
     CHECK(readable);

@@ -1,8 +1,12 @@
-//! Safe wrappers over the proved functions of `crates/wilbroged`: QUARK's permutation, its inverse and its digest, and the sealed journal.
+//! Safe wrappers over the proved functions of `crates/wilbroged`: QUARK's permutation and its inverse, whole or some of their steps, its
+//! digest, and the sealed journal.
 //!
 //! An instance of QUARK is a number: [`U`], [`D`] or [`S`]. A step width says how many steps are taken together: 1 or 8, and 16 for `S`
 //! alone. Every width gives the same bytes, and the widest is the fastest. Bit i of a state or a message is in byte i div 8 with weight
 //! 2 to the (7 - i mod 8).
+//!
+//! The steps of the permutation P work on three registers: X is the first half of a state, Y the second, and L has ten bits of its own. L's
+//! value is a number in which bit 0 has weight 512 and bit 9 weight 1.
 //!
 //! The package links the archive that `rt staticlib wilbroged` writes, so run that at the repository's root first.
 //!
@@ -21,5 +25,5 @@ mod refused;
 pub use digest::digest;
 pub use journal::{seal, verify};
 pub use parameters::*;
-pub use permutation::{invert, permute};
+pub use permutation::{invert, permute, steps, steps_back};
 pub use refused::Refused;

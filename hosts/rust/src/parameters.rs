@@ -1,4 +1,4 @@
-//! What calls take, by name: instances, step widths and lengths. The names are the C header's, without its `WILBROGED_`.
+//! What calls take, by name: instances, step widths, steps and lengths. The names are the C header's, without its `WILBROGED_`.
 
 /// The instance U-QUARK.
 pub const U: u32 = 1;
@@ -6,6 +6,8 @@ pub const U: u32 = 1;
 pub const U_BYTES: usize = 17;
 /// The widest step width of U, which is the fastest.
 pub const U_WIDTH: u32 = 8;
+/// The steps of U's permutation.
+pub const U_STEPS: u32 = 544;
 
 /// The instance D-QUARK.
 pub const D: u32 = 2;
@@ -13,6 +15,8 @@ pub const D: u32 = 2;
 pub const D_BYTES: usize = 22;
 /// The widest step width of D, which is the fastest.
 pub const D_WIDTH: u32 = 8;
+/// The steps of D's permutation.
+pub const D_STEPS: u32 = 704;
 
 /// The instance S-QUARK.
 pub const S: u32 = 3;
@@ -20,6 +24,11 @@ pub const S: u32 = 3;
 pub const S_BYTES: usize = 32;
 /// The widest step width of S, which is the fastest.
 pub const S_WIDTH: u32 = 16;
+/// The steps of S's permutation.
+pub const S_STEPS: u32 = 1_024;
+
+/// The value of the register L at the start of the permutation: all ones. It is the greatest.
+pub const L_ALL_ONES: u32 = 1_023;
 
 /// The bytes of a key.
 pub const KEY_BYTES: usize = 16;

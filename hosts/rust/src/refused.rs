@@ -57,6 +57,7 @@ refusals! {
     11 NOT_FOLLOWING "The body does not continue the records before it."
     12 DIFFERENT_SEAL "The seal is not the one that the record must have."
     16 BLANK_KEY "Every byte of the key is zero."
+    20 STEPS_OUT_OF_RANGE "L's start value is over 1,023, or the steps are more than P's or not whole groups of the step width."
 }
 
 impl Refused {

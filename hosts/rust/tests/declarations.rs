@@ -29,12 +29,13 @@ fn signatures(source: &str, prefix: &str, end: &[char]) -> BTreeMap<String, Sign
         .collect()
 }
 
-/// What C sees of a Rattle parameter: a slice is a pointer and a length.
+/// What C sees of a Rattle parameter: a slice is a pointer and a length, and a number that is written is a pointer.
 fn in_c((name, kind): (String, String)) -> Vec<(String, String)> {
     let length = (format!("{name}_len"), "usize".to_string());
     match kind.as_str() {
         "&[u8]" => vec![(name, "*const u8".to_string()), length],
         "&mut [u8]" => vec![(name, "*mut u8".to_string()), length],
+        "&mut u32" => vec![(name, "*mut u32".to_string())],
         "u8" | "u32" | "u64" | "usize" => vec![(name, kind)],
         _ => panic!("the parameter {name} of type {kind} has no rule here"),
     }
@@ -87,6 +88,7 @@ fn in_rust(kind: &str) -> String {
         "size_t" => "usize",
         "const uint8_t *" => "*const u8",
         "uint8_t *" => "*mut u8",
+        "uint32_t *" => "*mut u32",
         _ => panic!("the type {kind} of the header has no rule here"),
     }
     .to_string()
@@ -137,16 +139,16 @@ macro_rules! named {
 fn refusals() -> BTreeMap<&'static str, String> {
     BTreeMap::from(named!(Refused::{
         UNKNOWN_INSTANCE, UNKNOWN_WIDTH, WRONG_LENGTH, COUNT_OVER_BYTES, TOTAL_OVER_LIMIT, WRONG_JOURNAL_LENGTH, BROKEN_LAYOUT,
-        NOT_FOLLOWING, DIFFERENT_SEAL, BLANK_KEY,
+        NOT_FOLLOWING, DIFFERENT_SEAL, BLANK_KEY, STEPS_OUT_OF_RANGE,
     }))
 }
 
-/// What the names of instances, widths and lengths stand for is tried in `lengths.rs`.
+/// What the names of instances, widths, steps and lengths stand for is tried in `lengths.rs`.
 #[test]
 fn the_headers_values_are_those_of_rust() {
     let mut expected = refusals();
     expected.extend(named!(wilbroged::{
-        U, U_BYTES, U_WIDTH, D, D_BYTES, D_WIDTH, S, S_BYTES, S_WIDTH,
+        U, U_BYTES, U_WIDTH, U_STEPS, D, D_BYTES, D_WIDTH, D_STEPS, S, S_BYTES, S_WIDTH, S_STEPS, L_ALL_ONES,
         KEY_BYTES, SEAL_BYTES, BODY_BYTES, RECORD_BYTES, LONGEST_JOURNAL_BYTES,
     }));
     expected.insert("ACCEPTED", "0".to_string());

@@ -147,17 +147,17 @@ fn rules_have_every_order() {
     assert_eq!(said.collect::<Vec<_>>(), orders());
 }
 
-/// The table of the instances: the bytes and the widest width are those of the names, and the rest follows from b and r.
+/// The table of the instances: the bytes, the steps and the widest width are those of the names, and the rest follows from b and r.
 #[test]
 fn rules_have_the_instances() {
     let rows = rows_below(RULES, "Instances, widths, bits");
-    let named = [(U, U_BYTES, U_WIDTH), (D, D_BYTES, D_WIDTH), (S, S_BYTES, S_WIDTH)];
+    let named = [(U, U_BYTES, U_WIDTH, U_STEPS), (D, D_BYTES, D_WIDTH, D_STEPS), (S, S_BYTES, S_WIDTH, S_STEPS)];
     assert_eq!(rows.len(), named.len());
-    for (row, (number, bytes, width)) in rows.iter().zip(named) {
+    for (row, (number, bytes, width, steps)) in rows.iter().zip(named) {
         let cell = |i: usize| numbers(&row[i])[0];
         let (rate, b) = (reference::digest::rate_bytes(number) as u32 * 8, bytes as u32 * 8);
         assert_eq!((cell(0), cell(2), cell(3), cell(4)), (number, rate, b, bytes as u32));
-        assert_eq!((cell(5), cell(6)), (4 * b, b / rate));
+        assert_eq!((cell(5), cell(5), cell(6)), (steps, 4 * b, b / rate));
         assert_eq!(numbers(&row[7].replace(", ", " ")).last(), Some(&width));
     }
 }

@@ -1,12 +1,13 @@
-//! The named lengths and widths are those that the proved functions take: one byte more and one byte less is refused, and so is a wider
-//! step. They are also the independent implementation's.
+//! The named lengths, widths and steps are those that the proved functions take: one byte more and one byte less is refused, and so are a wider
+//! step, one step more and a greater value of L. They are also the independent implementation's.
 use reference::journal::{BODY, KEY, LONGEST, RECORD, SEAL};
 use reference::state_bytes;
+use reference::steps::clocks;
 use wilbroged::*;
 
 /// The number of a refusal, 0 where the call is accepted.
-fn number(answer: Result<(), Refused>) -> u32 {
-    answer.map_or_else(|refused| refused.number, |()| 0)
+fn number<T>(answer: Result<T, Refused>) -> u32 {
+    answer.map_or_else(|refused| refused.number, |_| 0)
 }
 
 #[test]
@@ -21,6 +22,22 @@ fn states_and_digests() {
         }
         for wider in width + 1..=8 * bytes as u32 {
             assert_eq!(number(permute(instance, wider, &mut vec![0; bytes])), Refused::UNKNOWN_WIDTH);
+        }
+    }
+}
+
+#[test]
+fn steps_of_the_permutation() {
+    for (instance, bytes, all) in [(U, U_BYTES, U_STEPS), (D, D_BYTES, D_STEPS), (S, S_BYTES, S_STEPS)] {
+        let mut state = vec![0; bytes];
+        assert_eq!(all as usize, clocks(instance, L_ALL_ONES, &state).len() - 1);
+        for (l, count, expected) in [
+            (L_ALL_ONES, all, 0),
+            (L_ALL_ONES, all + 1, Refused::STEPS_OUT_OF_RANGE),
+            (L_ALL_ONES + 1, all, Refused::STEPS_OUT_OF_RANGE),
+        ] {
+            assert_eq!(number(steps(instance, 1, l, count, &mut state)), expected);
+            assert_eq!(number(steps_back(instance, 1, l, count, &mut state)), expected);
         }
     }
 }

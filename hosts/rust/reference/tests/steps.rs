@@ -208,6 +208,7 @@ fn no_step_changes_nothing() {
             for &width in widths(instance) {
                 let mut state = start.clone();
                 assert_eq!(steps(instance, width, l, 0, &mut state), Ok(l));
+                assert_eq!(state, start);
                 assert_eq!(steps_back(instance, width, l, 0, &mut state), Ok(()));
                 assert_eq!(state, start);
             }
