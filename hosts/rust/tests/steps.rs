@@ -25,9 +25,17 @@ fn is_tried(width: u32, l: u32, count: u32) -> bool {
 fn compare(instance: u32, width: u32, l: u32, count: u32, start: &[u8], (end, l_after): &(Vec<u8>, u32)) {
     let mut state = start.to_vec();
     let answer = steps(instance, width, l, count, &mut state);
-    assert_eq!((answer, &state), (Ok(*l_after), end), "instance {instance}, width {width}, {count} steps from {l}, state {start:02X?}");
+    assert_eq!(
+        (answer, &state),
+        (Ok(*l_after), end),
+        "instance {instance}, width {width}, {count} steps from {l}, state {start:02X?}"
+    );
     let answer = steps_back(instance, width, l, count, &mut state);
-    assert_eq!((answer, &state[..]), (Ok(()), start), "instance {instance}, width {width}, {count} steps from {l} undone, state {end:02X?}");
+    assert_eq!(
+        (answer, &state[..]),
+        (Ok(()), start),
+        "instance {instance}, width {width}, {count} steps from {l} undone, state {end:02X?}"
+    );
 }
 
 /// From each value of L a pass over all counts.
