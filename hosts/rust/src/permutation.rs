@@ -50,8 +50,8 @@ pub fn invert(instance: u32, width: u32, state: &mut [u8]) -> Result<(), Refused
     Refused::unless_accepted(unsafe { quark_invert(instance, width, state.as_mut_ptr(), state.len()) })
 }
 
-/// Takes `count` steps of the permutation: puts the state after them in its place, and answers the register L's value after them. `l` is L's
-/// value before them. Refused, in this order, by `UNKNOWN_INSTANCE`, `UNKNOWN_WIDTH`, `STEPS_OUT_OF_RANGE` (`l` is over
+/// Takes `count` steps of the permutation: puts the state after them in its place, and answers the register L's value after them. `l` is
+/// L's value before them. Refused, in this order, by `UNKNOWN_INSTANCE`, `UNKNOWN_WIDTH`, `STEPS_OUT_OF_RANGE` (`l` is over
 /// [`L_ALL_ONES`](crate::L_ALL_ONES), or `count` is over the instance's steps, [`U_STEPS`](crate::U_STEPS) and so on, or no multiple of the
 /// width) and `WRONG_LENGTH`, which is about the bytes of `state`.
 ///

@@ -1,5 +1,5 @@
-//! The named lengths, widths and steps are those that the proved functions take: one byte more and one byte less is refused, and so are a wider
-//! step, one step more and a greater value of L. They are also the independent implementation's.
+//! The named lengths, widths and steps are those that the proved functions take: one byte more and one byte less is refused, and so are a
+//! wider step, one step more and a greater value of L. They are also the independent implementation's.
 use reference::journal::{BODY, KEY, LONGEST, RECORD, SEAL};
 use reference::state_bytes;
 use reference::steps::clocks;

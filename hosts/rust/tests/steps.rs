@@ -1,6 +1,6 @@
-//! The proved steps, and their undoing, agree with the independent implementation at every width of every instance, for every lawful count and
-//! each of L's 1,024 values; all steps from all ones are the proved permutation and inverse, and steps go on where they stopped. The states are
-//! random, with fixed seeds.
+//! The proved steps, and their undoing, agree with the independent implementation at every width of every instance, for every lawful count
+//! and each of L's 1,024 values; all steps from all ones are the proved permutation and inverse, and steps go on where they stopped. The
+//! states are random, with fixed seeds.
 mod widths;
 
 use reference::random::Random;
@@ -88,8 +88,8 @@ fn all_steps_are_the_permutation() {
     }
 }
 
-/// Some steps at one width, and more at another from the state and the value of L that these leave, are all of them at once. They are undone
-/// in the other order.
+/// Some steps at one width, and more at another from the state and the value of L that these leave, are all of them at once. They are
+/// undone in the other order.
 #[test]
 fn stopping_and_going_on() {
     let mut random = Random::new(75);

@@ -1,5 +1,5 @@
-//! Every refusal of the steps and of their undoing, in checking order (docs/RULES.md), with the buffer as it was: 1 the instance, 4 the width,
-//! 20 L's value or the count, 5 the length. That a refused call leaves the place of L's value alone is tried in hosts/c/check.c.
+//! Every refusal of the steps and of their undoing, in checking order (docs/RULES.md), with the buffer as it was: 1 the instance, 4 the
+//! width, 20 L's value or the count, 5 the length. That a refused call writes no value of L is tried in hosts/c/check.c.
 use wilbroged::{steps, steps_back, Refused};
 
 /// The answer of both functions; whatever is refused leaves the buffer as it was.

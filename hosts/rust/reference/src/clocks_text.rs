@@ -1,5 +1,5 @@
-//! The text that crates/clocks must write, from this implementation of P's steps: for each instance, from the first state of Appendix B, every
-//! eighth clock of P with its count of steps, L's bits and the state.
+//! The text that crates/clocks must write, from this implementation of P's steps: for each instance, from the first state of Appendix B,
+//! every eighth clock of P with its count of steps, L's bits and the state.
 use crate::steps::clocks;
 use crate::{appendix_b, hexadecimal};
 use std::fmt::Write;

@@ -1,5 +1,6 @@
-//! Some of P's steps, and their undoing, from document 02 (2.6) and document 01 ("Steps, permutation and inverse"). The registers are lists of
-//! bits, and each step moves all of them. A call answers the number of the first line of docs/RULES.md that holds, or what it hands back.
+//! Some of P's steps, and their undoing, from document 02 (2.6) and document 01 ("Steps, permutation and inverse"). The registers are lists
+//! of bits, and each step moves all of them. A call answers the number of the first line of docs/RULES.md that holds, or what it hands
+//! back.
 use crate::permutation::{bit, f, g, Instance, D, S, U};
 use crate::pieces::{is_instance, is_width};
 use crate::state_bytes;
