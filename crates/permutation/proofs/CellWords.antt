@@ -1,7 +1,7 @@
 -- Bits in cells and in words: the number that some cells hold, and the cells with a number's bits in them.
 use mathlib.Core.Bool.{Bool, true, false}
 use mathlib.Core.List.{List, [], _∷_, _++_, append-assoc}
-use mathlib.Core.Path.{_≡_, refl, sym, ap, ap₂, _∙_}
+use mathlib.Core.Path.{_≡_, refl, sym, ap, ap₂, _∙_, subst}
 use Prim.Native.Nat.{ℕ, suc, _+_, _-_, _*_, _^_, _≤_, _<_}
 use native.Mathlib.Nat.{add-zero, add-suc, add-comm, add-assoc, zero-add, pow-suc}
 use native.Mathlib.Omega.{arith}
@@ -10,21 +10,22 @@ use lib.ListN.{length, getD, take, drop, set, length-append, length-drop, take-a
 use lib.Pow.{pow-add}
 use lib.Seq.{drop-cons, set-at, length-take-le, take-take, take-add, drop-drop, drop-at, take-at}
 use Rattle.quark.specs.Feedback.{Taps}
-use Rattle.quark.specs.Instance.{Instance, instanceOf}
-use Rattle.quark.specs.Inverse.{undoSteps}
+use Rattle.quark.specs.Instance.{instanceOf}
 use Rattle.quark.specs.Step.{Registers, steps, stepsL, loaded, stored}
 use Rattle.quark.specs.Word.{wordBit, wordBits}
-use Rattle.quark.proofs.Instance.{Regular}
+use Rattle.quark.proofs.Instance.{regular, in-bytes}
+use Rattle.quark.proofs.Inverse.{Sized}
 use Rattle.quark.proofs.Together.{registers-path}
 use Rattle.quark.proofs.Word.{length-wordBits, append-wordBits, cons-wordBits, snoc-wordBits}
 use Rattle.words.specs.declared.Register.{Register}
 use Rattle.words.specs.declared.RegisterWords.{RegisterWords}
 use Rattle.words.specs.Words.{value, wordRegisters, registersOf, wordsAfter, wordsBefore, fits}
 use Rattle.words.proofs.Fits.{fits-tested}
-use Rattle.words.proofs.InWords.{Held, held-after, held-before}
-use Rattle.permutation.specs.leaf.Core.{Steppable, ran, undone, ranOrUndone}
+use Rattle.words.proofs.InWords.{Held, sized-words, held-after, held-before}
+use Rattle.permutation.specs.leaf.Core.{Cells, Steppable, registersReached, CellsHold, CellsReached}
 use Rattle.permutation.specs.leaf.Several.{written, ranOrUndoneWords}
 use Rattle.permutation.proofs.Cells.{drop-take}
+use Rattle.permutation.proofs.SerialSteps.{serial-cells, cells-hold}
 
 -- r holds the k bits of s from cell p on
 abbrev pub Holds : List ℕ → (k p r : ℕ) → Type 0
@@ -113,37 +114,45 @@ stored-words T s b x y l e h less =
     ∙ ap₂ (λ (r : List ℕ) (n : ℕ). r ++ drop n s) (words-append half half y x less) (zero-add (half + half) ∙ sym e)
 
 -- words that were loaded from cells, taken n steps or n steps back, and written back
-module _ (I : Instance) (regular : Regular I) (s : List ℕ) (long : I .b ≤ length s) (x y : Register) (l n : ℕ) where
-  halves : I .b ≡ I .taps .half + I .taps .half
-  halves = omega (arith, regular .two-halves)
+module _ (i : ℕ) (s : List ℕ) (full : length s ≡ 256) (single : Cells s) (x y : Register) (l n : ℕ) where
+  abbrev T : Taps
+  T = instanceOf i .taps
+
+  halves : instanceOf i .b ≡ T .half + T .half
+  halves = omega (arith, regular i .two-halves)
+
+  long : instanceOf i .b ≤ length s
+  long = omega (arith, full, in-bytes i .at-most-256)
 
   abbrev start : RegisterWords
   start = record { x = x; y = y; l = l }
 
   -- words that hold registers, written to the cells
-  written-held : (t : RegisterWords) (q : Registers) → Held (I .taps) t q
-      → written (written s 0 (I .taps .half) (value (t .x))) (I .taps .half) (I .taps .half) (value (t .y)) ≡ stored q ++ drop (I .b) s
+  written-held : (t : RegisterWords) (q : Registers) → Held T t q
+      → CellsHold (instanceOf i) q s (written (written s 0 (T .half) (value (t .x))) (T .half) (T .half) (value (t .y))) (t .l)
+  unfolding stored wordRegisters
   written-held t q held =
-      stored-words (I .taps) s (I .b) (value (t .x)) (value (t .y)) (t .l) halves long (held .1 .fitsX)
-      ∙ ap (λ (r : Registers). stored r ++ drop (I .b) s) (held .0)
+      let z : Sized T q = subst (Sized T) (held .0) (sized-words T (value (t .x)) (value (t .y)) (t .l)) in
+      cells-hold (serial-cells i s l (T .half) refl full single) (t .l) (held .1 .fitsL) q z (ap (λ (r : Registers). r .L) (held .0))
+      (stored-words T s (instanceOf i .b) (value (t .x)) (value (t .y)) (t .l) halves long (held .1 .fitsX)
+      ∙ ap (λ (r : Registers). stored r ++ drop (instanceOf i .b) s) (held .0)
+      ∙ append-assoc (q .X) (q .Y) (drop (instanceOf i .b) s))
 
-  on-halves : (inverse : Bool) → Holds s (I .taps .half) 0 (value x) → Holds s (I .taps .half) (I .taps .half) (value y)
-      → let t = ranOrUndoneWords inverse (I .taps) n start in
-      written (written s 0 (I .taps .half) (value (t .x))) (I .taps .half) (I .taps .half) (value (t .y)) ≡ ranOrUndone inverse I l n s
-  unfolding ranOrUndone ran undone wordRegisters ranOrUndoneWords
+  on-halves : (inverse : Bool) → Holds s (T .half) 0 (value x) → Holds s (T .half) (T .half) (value y)
+      → let t = ranOrUndoneWords inverse T n start in
+      CellsReached inverse (instanceOf i) l n s (written (written s 0 (T .half) (value (t .x))) (T .half) (T .half) (value (t .y))) (t .l)
+  unfolding registersReached wordRegisters ranOrUndoneWords
   on-halves false hx hy =
-      written-held (wordsAfter (I .taps) n start) (steps (I .taps) n (registersOf (I .taps) start)) (held-after (I .taps) (regular .lawful) n start)
-      ∙ ap (λ (r : Registers). stored (steps (I .taps) n r) ++ drop (I .b) s)
-      (sym (loaded-words (I .taps) s (I .b) (value x) (value y) (wordBits 10 l) halves long (hx .1) (hy .1)))
+      rw (loaded-words T s (instanceOf i .b) (value x) (value y) (wordBits 10 l) halves long (hx .1) (hy .1))
+      (written-held (wordsAfter T n start) (steps T n (registersOf T start)) (held-after T (regular i .lawful) n start))
   on-halves true hx hy =
-      written-held (wordsBefore (I .taps) n start) _ (held-before (I .taps) (regular .lawful) n start)
-      ∙ ap (λ (r : Registers). stored (undoSteps (I .taps) n r) ++ drop (I .b) s)
-      (sym (loaded-words (I .taps) s (I .b) (value x) (value y) (stepsL n (wordBits 10 l)) halves long (hx .1) (hy .1)))
+      rw (loaded-words T s (instanceOf i .b) (value x) (value y) (stepsL n (wordBits 10 l)) halves long (hx .1) (hy .1))
+      (written-held (wordsBefore T n start) _ (held-before T (regular i .lawful) n start))
 
-  pub ran-or-undone-words : (inverse : Bool) (half : ℕ) → half ≡ I .taps .half → Holds s half 0 (value x) → Holds s half half (value y)
-      → let t = ranOrUndoneWords inverse (I .taps) n start in
-      written (written s 0 half (value (t .x))) half half (value (t .y)) ≡ ranOrUndone inverse I l n s
-  ran-or-undone-words inverse half eh hx hy = rw eh (on-halves inverse (rw eh at hx) (rw eh at hy))
+  pub words-reached : (inverse : Bool) (half : ℕ) → half ≡ T .half → Holds s half 0 (value x) → Holds s half half (value y)
+      → let t = ranOrUndoneWords inverse T n start in
+      CellsReached inverse (instanceOf i) l n s (written (written s 0 half (value (t .x))) half half (value (t .y))) (t .l)
+  words-reached inverse half eh hx hy = rw eh (on-halves inverse (rw eh at hx) (rw eh at hy))
 
 -- such words, with an L of ten bits, fit
 pub loaded-fit : {i w l n : ℕ} {s : List ℕ} → Steppable i w l n s → (w ≡ 1 → ⊥) → (x y : Register) (half p : ℕ) → half ≡ instanceOf i .taps .half
@@ -151,9 +160,9 @@ pub loaded-fit : {i w l n : ℕ} {s : List ℕ} → Steppable i w l n s → (w �
 loaded-fit {i} {w} {l} {n} given more x y half p e hx hy =
     fits-tested i w n (record { x = x; y = y; l = l })
     (record {
-      is-instance = given .is-instance;
-      width = given .is-width;
+      is-instance = given .allowed .is-instance;
+      width = given .allowed .is-width;
       more = more;
-      whole = given .whole;
-      words = record { fitsX = rw e at (hx .0); fitsY = rw e at (hy .0); fitsL = given .small };
+      whole = given .allowed .whole;
+      words = record { fitsX = rw e at (hx .0); fitsY = rw e at (hy .0); fitsL = given .allowed .small };
     })

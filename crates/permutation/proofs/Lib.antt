@@ -10,3 +10,4 @@ pub mod Accepted
 pub mod Overwriting
 pub mod CellWords
 pub mod Widths
+pub mod NamedClocks

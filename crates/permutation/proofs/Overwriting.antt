@@ -1,48 +1,39 @@
--- The cells on the way from a buffer through P, or its inverse, and back: what the stepping cores leave is P, and its bytes are P's.
-use mathlib.Core.Bool.{Bool, true, false}
+-- The cells on the way from a buffer through the stepping cores and back: the bytes that are stored are those of the registers reached, and
+-- with all steps of P, of P or its inverse.
+use mathlib.Core.Bool.{Bool, true, false, cond}
 use mathlib.Core.List.{List, _++_}
 use mathlib.Core.Path.{_≡_, refl, sym, ap, ap₂, _∙_, subst}
 use Prim.Native.Nat.{ℕ, _*_, _-_, _≤_}
 use native.Mathlib.Omega.{arith}
-use lib.ListN.{length, take, drop, replicate, length-append, length-replicate}
-use lib.Seq.{take-at, drop-at}
+use lib.ListN.{length, take, drop, replicate, length-append, length-replicate, take-append-drop}
+use lib.Seq.{length-take-le, take-at}
 use Rattle.quark.specs.Bytes.{bitsOf, bytesOf}
-use Rattle.quark.specs.Step.{allOnes, stepsL, rounds, P}
-use Rattle.quark.specs.Inverse.{undoP}
-use Rattle.quark.specs.Instance.{Instance, instanceOf, stateBytes}
+use Rattle.quark.specs.Feedback.{Taps}
+use Rattle.quark.specs.Step.{Registers, steps, stepsL, allOnes, loaded, stored, rounds, P}
+use Rattle.quark.specs.Inverse.{undoSteps, undoP}
+use Rattle.quark.specs.Instance.{instanceOf, stateBytes}
 use Rattle.quark.specs.Word.{wordBits}
-use Rattle.quark.proofs.Bits.{Bits, Wide, bits-at, bits-append, bits-replicate}
+use Rattle.quark.proofs.Bits.{Wide, bits-at, bits-append, bits-replicate}
 use Rattle.quark.proofs.Bytes.{bytes-front, wide-bitsOf}
-use Rattle.quark.proofs.Instance.{in-bytes, regular, P-wide, undoP-wide}
-use Rattle.quark.proofs.Inverse.{wide-stepsL, wide-run, wide-undone}
-use Rattle.quark.proofs.Word.{wide-wordBits}
+use Rattle.quark.proofs.Instance.{in-bytes, regular}
+use Rattle.quark.proofs.Inverse.{stored-loaded}
 use Rattle.permutation.specs.Permute.{onBytes}
-use Rattle.permutation.specs.leaf.Core.{Cells, ran, undone, ranOrUndone, permuted}
+use Rattle.permutation.specs.Steps.{valueOfL, registersAfter, registersBefore}
+use Rattle.permutation.specs.leaf.Core.{Cells, registersReached, registers, CellsReached, BufferReached, permuted}
+use Rattle.permutation.proofs.RegisterL.{start-bits}
 
 -- 4b steps from all ones: P and its inverse
-all-rounds : (inverse : Bool) (I : Instance) (cells : List ℕ)
-    → ranOrUndone inverse I 1023 (rounds (I .taps)) cells ≡ permuted inverse (I .taps) (take (I .b) cells) ++ drop (I .b) cells
-unfolding ranOrUndone ran undone permuted P undoP allOnes wordBits
-all-rounds true I cells = refl
-all-rounds false I cells = refl
+all-rounds : (inverse : Bool) (T : Taps) (s : List ℕ) → stored (registersReached inverse T 1023 (rounds T) s) ≡ permuted inverse T s
+unfolding registersReached permuted P undoP allOnes wordBits
+all-rounds true T s = refl
+all-rounds false T s = refl
 
--- P and its inverse keep b bits
-wide-permuted : (inverse : Bool) (i : ℕ) (s : List ℕ) → Wide (instanceOf i .b) s → Wide (instanceOf i .b) (permuted inverse (instanceOf i .taps) s)
-unfolding permuted
-wide-permuted true i s w = undoP-wide (instanceOf i) (regular i) s w
-wide-permuted false i s w = P-wide (instanceOf i) (regular i) s w
-
--- what the stepping cores leave of b bits, and of bits after them, are bits, from any L
-module _ (i l n : ℕ) (cells : List ℕ) (w : Wide (instanceOf i .b) (take (instanceOf i .b) cells)) (rest : Bits (drop (instanceOf i .b) cells)) where
-  halves : Wide (2 * instanceOf i .taps .half) (take (instanceOf i .b) cells)
-  halves = subst (λ (k : ℕ). Wide k (take (instanceOf i .b) cells)) (regular i .two-halves) w
-
-  bits-left : (inverse : Bool) → Bits (ranOrUndone inverse (instanceOf i) l n cells)
-  unfolding ranOrUndone ran undone
-  bits-left true =
-      let L = stepsL n (wordBits 10 l) in
-      bits-append (wide-undone (instanceOf i .taps) (regular i .lawful) n _ halves L (wide-stepsL n (wordBits 10 l) (wide-wordBits 10 l)) .1) rest
-  bits-left false = bits-append (wide-run (instanceOf i .taps) (regular i .lawful) n _ halves (wordBits 10 l) (wide-wordBits 10 l) .1) rest
+-- steps from a start value, whose bit 0 has weight 512
+start-reached : (inverse : Bool) (T : Taps) (l start count : ℕ) (s : List ℕ) → start ≡ valueOfL (wordBits 10 l)
+    → registersReached inverse T start count s ≡ cond inverse registersBefore registersAfter l count T s
+unfolding registersReached registersBefore registersAfter
+start-reached true T l start count s e = ap (λ (q : List ℕ). undoSteps T count (loaded T s (stepsL count q))) (ap (wordBits 10) e ∙ start-bits l)
+start-reached false T l start count s e = ap (λ (q : List ℕ). steps T count (loaded T s q)) (ap (wordBits 10) e ∙ start-bits l)
 
 -- bits, and zeros after them
 cells-of : (n z : ℕ) (s : List ℕ) → Wide n s → Cells (s ++ replicate z 0)
@@ -64,14 +55,13 @@ module _ (i : ℕ) (bytes : List ℕ) (n : length bytes ≡ stateBytes i) where
   loaded-cells = cells-of (8 * length bytes) (256 - 8 * length bytes) (bitsOf (8 * length bytes) bytes) (wide-bitsOf (8 * length bytes) bytes)
 
   -- its bits stand in the first b cells
-  first-cells : (take (instanceOf i .b) cells ≡ bitsOf (instanceOf i .b) bytes) × (drop (instanceOf i .b) cells ≡ replicate (256 - 8 * length bytes) 0)
+  first-cells : take (instanceOf i .b) cells ≡ bitsOf (instanceOf i .b) bytes
   first-cells =
       let s = bitsOf (8 * length bytes) bytes in
       let z : List ℕ = replicate (256 - 8 * length bytes) 0 in
-      let e : length s ≡ instanceOf i .b = wide-bitsOf (8 * length bytes) bytes .0 ∙ width in
-      (take-at s z (instanceOf i .b) e ∙ ap (λ (k : ℕ). bitsOf k bytes) width, drop-at s z (instanceOf i .b) e)
+      take-at s z (instanceOf i .b) (wide-bitsOf (8 * length bytes) bytes .0 ∙ width) ∙ ap (λ (k : ℕ). bitsOf k bytes) width
 
-  -- the cells after loading, after P or its inverse, and the buffer after storing
+  -- the cells after loading
   module _ (before : List ℕ) (e : before ≡ cells) where
     pub load-length : length before ≡ 256
     load-length =
@@ -82,33 +72,50 @@ module _ (i : ℕ) (bytes : List ℕ) (n : length bytes ≡ stateBytes i) where
     pub load-cells : Cells before
     load-cells = subst Cells (sym e) loaded-cells
 
-    -- from any L the cores leave single bits
-    pub stepped-cells : (inverse : Bool) (l count : ℕ) (after : List ℕ) → after ≡ ranOrUndone inverse (instanceOf i) l count before → Cells after
-    stepped-cells inverse l count after e′ =
-        subst Cells (sym (e′ ∙ ap (ranOrUndone inverse (instanceOf i) l count) e))
-        (bits-at
-        (bits-left i l count cells (rw (first-cells .0) (wide-bitsOf (instanceOf i .b) bytes))
-        (rw (first-cells .1) (bits-replicate (256 - 8 * length bytes) {v = 0} (omega arith))) inverse))
+    -- the buffer once the cells that were reached are stored
+    module _ (inverse : Bool) (l count : ℕ) (after : List ℕ) (l′ : ℕ) (reached : CellsReached inverse (instanceOf i) l count before after l′) where
+      front-cells : take (instanceOf i .b) before ≡ bitsOf (instanceOf i .b) bytes
+      front-cells = ap (take (instanceOf i .b)) e ∙ first-cells
 
-    module _ (inverse : Bool) (count : ℕ) (en : count ≡ rounds (instanceOf i .taps)) (after : List ℕ) (e′ : after ≡ ranOrUndone inverse (instanceOf i) 1023 count before) where
-      result : List ℕ
-      result = permuted inverse (instanceOf i .taps) (bitsOf (instanceOf i .b) bytes)
+      registers-reached : registers (instanceOf i) after l′ ≡ registersReached inverse (instanceOf i .taps) l count (bitsOf (instanceOf i .b) bytes)
+      registers-reached = reached .holds ∙ ap (registersReached inverse (instanceOf i .taps) l count) front-cells
 
-      wide-result : Wide (instanceOf i .b) result
-      unfolding result
-      wide-result = wide-permuted inverse i (bitsOf (instanceOf i .b) bytes) (wide-bitsOf (instanceOf i .b) bytes)
+      pub buffer-reached : BufferReached inverse i l count bytes (bytesOf (length bytes) after) l′
+      unfolding onBytes registers loaded
+      buffer-reached =
+          let b = instanceOf i .b in
+          let size : length (take b after) ≡ b = length-take-le b after (omega (arith, reached .full, in-bytes i .at-most-256)) in
+          record {
+            bytes =
+                ap (bytesOf (length bytes)) (sym (take-append-drop b after))
+                ∙ bytes-front (length bytes) (take b after) (drop b after) (omega (arith, width))
+                ∙ ap₂ (λ (n : ℕ) (s : List ℕ). bytesOf n s) n
+                (sym (stored-loaded (instanceOf i .taps) (regular i .lawful) (take b after) (wordBits 10 l′)) ∙ ap stored registers-reached);
+            small = reached .small;
+            holds-L = ap (λ (r : Registers). r .L) registers-reached;
+          }
 
-      after-is : after ≡ result ++ replicate (256 - 8 * length bytes) 0
-      unfolding result
-      after-is =
-          e′
-          ∙ ap₂ (λ (n : ℕ) (s : List ℕ). ranOrUndone inverse (instanceOf i) 1023 n s) en e
-          ∙ all-rounds inverse (instanceOf i) cells
-          ∙ ap₂ (λ (s t : List ℕ). permuted inverse (instanceOf i .taps) s ++ t) (first-cells .0) (first-cells .1)
+-- ---- the buffer of a call
 
-      pub permuted-bytes : bytesOf (length bytes) after ≡ onBytes (permuted inverse) i bytes
-      unfolding onBytes result
-      permuted-bytes =
-          ap (bytesOf (length bytes)) after-is
-          ∙ bytes-front (length bytes) result (replicate (256 - 8 * length bytes) 0) (omega (arith, width, wide-result .0))
-          ∙ ap (λ (k : ℕ). bytesOf k result) n
+module _ (i : ℕ) (before after : List ℕ) where
+  -- P, or its inverse
+  pub permuted-bytes : (inverse : Bool) (count l : ℕ) → count ≡ rounds (instanceOf i .taps) → BufferReached inverse i 1023 count before after l
+      → after ≡ onBytes (permuted inverse) i before
+  unfolding onBytes
+  permuted-bytes inverse count l e reached =
+      reached .bytes
+      ∙ ap (bytesOf (stateBytes i))
+      (ap (λ (n : ℕ). stored (registersReached inverse (instanceOf i .taps) 1023 n (bitsOf (instanceOf i .b) before))) e
+      ∙ all-rounds inverse (instanceOf i .taps) (bitsOf (instanceOf i .b) before))
+
+  -- steps from a start value, or back to it
+  module _ (inverse : Bool) (l start count l′ : ℕ) (e : start ≡ valueOfL (wordBits 10 l)) (reached : BufferReached inverse i start count before after l′) where
+    pub stepped-bytes : after ≡ onBytes (λ T s. stored (cond inverse registersBefore registersAfter l count T s)) i before
+    unfolding onBytes
+    stepped-bytes =
+        reached .bytes ∙ ap (λ (r : Registers). bytesOf (stateBytes i) (stored r)) (start-reached inverse (instanceOf i .taps) l start count _ e)
+
+    pub stepped-L : valueOfL (wordBits 10 l′)
+        ≡ valueOfL (cond inverse registersBefore registersAfter l count (instanceOf i .taps) (bitsOf (instanceOf i .b) before) .L)
+    stepped-L =
+        ap valueOfL (reached .holds-L ∙ ap (λ (r : Registers). r .L) (start-reached inverse (instanceOf i .taps) l start count _ e))

@@ -12,14 +12,13 @@ use Rattle.quark.specs.Step.{Registers, shift, stepL, step, loaded, stored}
 use Rattle.quark.specs.Inverse.{unshift, gained, undoStepL, undoStep}
 use Rattle.quark.specs.Instance.{Instance, instanceOf}
 use Rattle.quark.specs.Word.{wordBits}
-use Rattle.quark.specs.leaf.Together.{gainX, gainY}
+use Rattle.quark.specs.Together.{gainX, gainY}
 use Rattle.quark.proofs.Bits.{Bits, more, Wide, parity-lt, bits-append, bits-take, bits-drop, bits-at, bits-of}
 use Rattle.quark.proofs.Word.{wide-wordBits}
 use Rattle.quark.proofs.Together.{registers-path}
 use Rattle.quark.proofs.Inverse.{Sized, sized-loaded, sized-step, sized-undoStep}
 use Rattle.quark.proofs.Instance.{Regular, regular, in-bytes}
-use Rattle.permutation.specs.leaf.Core.{Cells}
-use Rattle.permutation.specs.leaf.Serial.{registers, CellsHold}
+use Rattle.permutation.specs.leaf.Core.{Cells, registers, CellsHold}
 use Rattle.permutation.proofs.Cells.{down, up, drop-take, down-two, up-two, set-fronts}
 
 -- the bits of f, g and h are single bits, and so is the bit that a register gained
@@ -142,7 +141,7 @@ module _ {I : Instance} {cells : List ℕ} {l half : ℕ} (given : SerialCells I
 
   module _ (l′ : ℕ) (small : l′ < 1024) where
     -- cells that hold other registers, with the same others after them
-    cells-hold : (s : Registers) → Sized (I .taps) s → wordBits 10 l′ ≡ s .L → {after : List ℕ} → after ≡ s .X ++ (s .Y ++ drop (I .b) cells)
+    pub cells-hold : (s : Registers) → Sized (I .taps) s → wordBits 10 l′ ≡ s .L → {after : List ℕ} → after ≡ s .X ++ (s .Y ++ drop (I .b) cells)
         → CellsHold I s cells after l′
     unfolding registers loaded
     cells-hold s z el {after} e =
@@ -220,11 +219,3 @@ module _ (I : Instance) where
     full = b .full;
     cells = b .cells;
   }
-
-  -- the cells are the registers, and the others after them
-  pub hold-cells : {s : Registers} {start after : List ℕ} {l : ℕ} → CellsHold I s start after l → after ≡ stored s ++ drop (I .b) start
-  unfolding stored
-  hold-cells {s} {start} {after} {l} a =
-      sym (split I after l)
-      ∙ sym (append-assoc (registers I after l .X) (registers I after l .Y) (drop (I .b) after))
-      ∙ ap₂ (λ (r : Registers) (others : List ℕ). (r .X ++ r .Y) ++ others) (a .holds) (a .rest)

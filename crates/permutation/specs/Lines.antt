@@ -1,7 +1,10 @@
--- The lines that read an instance's number and a step width (docs/RULES.md).
-use mathlib.Core.Bool.{Bool, not}
-use Prim.Native.Nat.{ℕ}
-use Rattle.quark.specs.Instance.{isInstance, isWidth}
+-- The lines that read an instance's number, a step width, a start value of L and a step count (docs/RULES.md). Each is defined for every
+-- number: of the width 0, which line 4 refuses, only 0 is a multiple.
+use mathlib.Core.Bool.{Bool, not, _||_}
+use Prim.Native.Nat.{ℕ, _%_}
+use lib.Dec.{eqb, ltb}
+use Rattle.quark.specs.Step.{rounds}
+use Rattle.quark.specs.Instance.{instanceOf, isInstance, isWidth}
 
 -- 1. No instance has this number.
 unfoldable pub line1 : ℕ → Bool
@@ -10,3 +13,11 @@ line1 i = not (isInstance i)
 -- 4. The instance has no such step width.
 unfoldable pub line4 : (i w : ℕ) → Bool
 line4 i w = not (isWidth i w)
+
+-- the most steps that a call takes: P's, 4b
+unfoldable pub mostSteps : ℕ → ℕ
+mostSteps i = rounds (instanceOf i .taps)
+
+-- 20. L's start value is over 1,023, or the steps are more than P's or not whole groups of the step width.
+unfoldable pub line20 : (i w l count : ℕ) → Bool
+line20 i w l count = ltb 1023 l || ltb (mostSteps i) count || not (eqb (count % w) 0)

@@ -1,10 +1,11 @@
 // The stepping cores by step width. They take L's start value and a step count; P and its inverse pass all ones and 4b.
 // Assumes that every cell is 0 or 1.
 ghost use mathlib.Core.Path.{_≡_};
+ghost use lib.ListN.{length};
 ghost use Rattle.refusals.specs.Outcome.{outcomeOf};
 ghost use Rattle.quark.specs.Step.{rounds};
-ghost use Rattle.quark.specs.Instance.{instanceOf};
-ghost use Rattle.permutation.specs.leaf.Core.{Steppable, ranOrUndone, permuted};
+ghost use Rattle.quark.specs.Instance.{instanceOf, stateBytes};
+ghost use Rattle.permutation.specs.leaf.Core.{Allowed, Steppable, CellsReached, BufferReached, permuted};
 ghost use Rattle.permutation.specs.Permute.{permuteOutcome, overwritten};
 use crate::bytes;
 use crate::lines;
@@ -29,10 +30,18 @@ pub fn rounds(instance: u32) -> u32
     1024
 }
 
-// `count` steps on the cells, or `count` steps undone, at a step width of the instance's. L begins at l before the first of them.
-fn run_or_undo(inverse: bool, bits: &mut [u8; 256], instance: u32, width: u32, l: u32, count: u32)
+// `count` steps on the cells, or `count` steps undone, at a step width of the instance's. L begins at l before the first of them. Returns L
+// after the steps, or before them.
+fn run_or_undo(
+    inverse: bool,
+    bits: &mut [u8; 256],
+    instance: u32,
+    width: u32,
+    l: u32,
+    count: u32,
+) -> u32
     requires { ⌜ Steppable instance width l count (now bits) ⌝ }
-    ensures { λ _. ⌜ now (bits .exit) ≡ ranOrUndone inverse (instanceOf instance) l count (now (bits .entry)) ⌝ }
+    ensures { λ r. ⌜ CellsReached inverse (instanceOf instance) l count (now (bits .entry)) (now (bits .exit)) r ⌝ }
 {
     if width != 1 {
         return several::run_or_undo(inverse, bits, instance, width, l, count);
@@ -43,8 +52,29 @@ fn run_or_undo(inverse: bool, bits: &mut [u8; 256], instance: u32, width: u32, l
     serial::run(bits, instance, l, count)
 }
 
+// Overwrites the bits of an instance's state by X, then Y after `count` steps, or from before them. L begins at l before the first of them.
+// Returns L after the steps, or before them.
+pub fn overwrite(
+    inverse: bool,
+    instance: u32,
+    width: u32,
+    l: u32,
+    count: u32,
+    buffer: &mut [u8],
+) -> u32
+    requires { ⌜ Allowed instance width l count ⌝ }
+    requires { ⌜ length (now buffer) ≡ stateBytes instance ⌝ }
+    ensures { λ r. ⌜ BufferReached inverse instance l count (now (buffer .entry)) (now (buffer .exit)) r ⌝ }
+{
+    let mut bits = [0u8; 256];
+    bytes::load(buffer, &mut bits);
+    let reached = run_or_undo(inverse, &mut bits, instance, width, l, count);
+    bytes::store(&bits, buffer);
+    reached
+}
+
 // Overwrites the bits of an instance's state by P of them, or by P's inverse.
-pub fn overwrite(inverse: bool, instance: u32, width: u32, buffer: &mut [u8]) -> Answer
+pub fn permute_or_invert(inverse: bool, instance: u32, width: u32, buffer: &mut [u8]) -> Answer
     ensures answer { λ r. ⌜ outcomeOf r ≡ permuteOutcome instance width (now (buffer .entry)) ⌝ }
     ensures bytes { λ _. ⌜ now (buffer .exit) ≡ overwritten (permuted inverse) instance width (now (buffer .entry)) ⌝ }
 {
@@ -52,16 +82,7 @@ pub fn overwrite(inverse: bool, instance: u32, width: u32, buffer: &mut [u8]) ->
     if number != 0 {
         return Answer::Refused(Refusal { number, place: 0 });
     }
-    let mut bits = [0u8; 256];
-    bytes::load(buffer, &mut bits);
-    run_or_undo(
-        inverse,
-        &mut bits,
-        instance,
-        width,
-        ALL_ONES,
-        rounds(instance),
-    );
-    bytes::store(&bits, buffer);
+    let count = rounds(instance);
+    overwrite(inverse, instance, width, ALL_ONES, count, buffer);
     Answer::Accepted
 }

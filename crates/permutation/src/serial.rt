@@ -2,6 +2,7 @@
 // Of 256 cells the first half hold X and the next half Y; the rest is not touched. A step moves the cells of X and Y down by one and
 // puts the two new bits at their ends, and undoing it moves them up. L is a number below 1024 with bit i at weight 2 to the i.
 // Assumes that every cell is 0 or 1.
+ghost use mathlib.Core.Bool.{true, false};
 ghost use mathlib.Core.Path.{_≡_};
 ghost use mathlib.Core.List.{_++_};
 ghost use Prim.Native.Nat.{ℕ, _+_, _-_, _%_, _<_, _≤_};
@@ -12,8 +13,8 @@ ghost use Rattle.quark.specs.Step.{step};
 ghost use Rattle.quark.specs.Inverse.{undoStep};
 ghost use Rattle.quark.specs.Instance.{instanceOf};
 ghost use Rattle.quark.specs.Word.{wordBits};
-ghost use Rattle.permutation.specs.leaf.Core.{Cells, ran, undone};
-ghost use Rattle.permutation.specs.leaf.Serial.{registers, indices, Fed, CellsHold};
+ghost use Rattle.permutation.specs.leaf.Core.{Cells, registers, CellsHold, CellsReached};
+ghost use Rattle.permutation.specs.leaf.Serial.{indices, Fed};
 use crate::register_l::next_l;
 use crate::register_l::run_l;
 use crate::register_l::undo_l;
@@ -229,12 +230,12 @@ fn undo_step(bits: &mut [u8; 256], instance: u32, l: u32) -> u32
     before
 }
 
-// `count` steps, from L's value l.
-pub fn run(bits: &mut [u8; 256], instance: u32, l: u32, count: u32)
+// `count` steps, from L's value l. Returns L after them.
+pub fn run(bits: &mut [u8; 256], instance: u32, l: u32, count: u32) -> u32
     requires { ⌜ l < 1024 ⌝ }
     requires { ⌜ length (now bits) ≡ 256 ⌝ }
     requires { ⌜ Cells (now bits) ⌝ }
-    ensures { λ _. ⌜ now (bits .exit) ≡ ran (instanceOf instance) l count (now (bits .entry)) ⌝ }
+    ensures { λ r. ⌜ CellsReached false (instanceOf instance) l count (now (bits .entry)) (now (bits .exit)) r ⌝ }
 {
     let mut l_now = l;
     let mut t = 0;
@@ -242,14 +243,15 @@ pub fn run(bits: &mut [u8; 256], instance: u32, l: u32, count: u32)
         l_now = step(bits, instance, l_now);
         t += 1;
     }
+    l_now
 }
 
-// `count` steps undone, the last of them first. L began at l before the first of them.
-pub fn undo(bits: &mut [u8; 256], instance: u32, l: u32, count: u32)
+// `count` steps undone, the last of them first. L began at l before the first of them. Returns L before them.
+pub fn undo(bits: &mut [u8; 256], instance: u32, l: u32, count: u32) -> u32
     requires { ⌜ l < 1024 ⌝ }
     requires { ⌜ length (now bits) ≡ 256 ⌝ }
     requires { ⌜ Cells (now bits) ⌝ }
-    ensures { λ _. ⌜ now (bits .exit) ≡ undone (instanceOf instance) l count (now (bits .entry)) ⌝ }
+    ensures { λ r. ⌜ CellsReached true (instanceOf instance) l count (now (bits .entry)) (now (bits .exit)) r ⌝ }
 {
     let mut l_now = run_l(l, count);
     let mut t = count;
@@ -257,4 +259,5 @@ pub fn undo(bits: &mut [u8; 256], instance: u32, l: u32, count: u32)
         l_now = undo_step(bits, instance, l_now);
         t -= 1;
     }
+    l_now
 }

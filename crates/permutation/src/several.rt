@@ -7,7 +7,7 @@ ghost use lib.ListN.{length, take, drop};
 ghost use Rattle.quark.specs.Instance.{instanceOf};
 ghost use Rattle.quark.specs.Word.{wordBits};
 ghost use Rattle.words.specs.Words.{value, fits};
-ghost use Rattle.permutation.specs.leaf.Core.{Cells, Steppable, ranOrUndone};
+ghost use Rattle.permutation.specs.leaf.Core.{Cells, Steppable, CellsReached};
 ghost use Rattle.permutation.specs.leaf.Several.{ranOrUndoneWords, written};
 use crate::taps::half_of;
 use words::Register;
@@ -91,7 +91,8 @@ fn run_or_undo_words(
     words::run(instance, width, count, state)
 }
 
-// `count` steps on the cells, or `count` steps undone, `width` at a time. L begins at l before the first of them.
+// `count` steps on the cells, or `count` steps undone, `width` at a time. L begins at l before the first of them. Returns L after the steps,
+// or before them.
 pub fn run_or_undo(
     inverse: bool,
     bits: &mut [u8; 256],
@@ -99,10 +100,10 @@ pub fn run_or_undo(
     width: u32,
     l: u32,
     count: u32,
-)
+) -> u32
     requires { ⌜ Steppable instance width l count (now bits) ⌝ }
     requires { ⌜ (width ≡ 1 → ⊥) ⌝ }
-    ensures { λ _. ⌜ now (bits .exit) ≡ ranOrUndone inverse (instanceOf instance) l count (now (bits .entry)) ⌝ }
+    ensures { λ r. ⌜ CellsReached inverse (instanceOf instance) l count (now (bits .entry)) (now (bits .exit)) r ⌝ }
 {
     let half = half_of(instance);
     let x = load(bits, 0, half);
@@ -117,4 +118,5 @@ pub fn run_or_undo(
     let y2 = after.y;
     save(x2, bits, 0, half);
     save(y2, bits, half, half);
+    after.l as u32
 }

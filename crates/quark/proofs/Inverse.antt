@@ -3,7 +3,7 @@
 use mathlib.Core.List.{List, [], _∷_, _++_}
 use mathlib.Core.Path.{_≡_, refl, sym, ap, ap₂, _∙_}
 use Prim.Native.Nat.{ℕ, zero, suc, _+_, _*_, _-_, _%_, _<_}
-use native.Mathlib.Nat.{not-suc-le-zero}
+use native.Mathlib.Nat.{not-suc-le-zero, add-zero, add-suc}
 use native.Mathlib.Omega.{arith}
 use lib.ListN.{List·getD-append, length, take, length-append, length-take, length-drop, take-append-drop}
 use lib.Seq.{take-at, drop-at, getD-at, getD-take}
@@ -11,11 +11,11 @@ use Rattle.quark.specs.Bytes.{bit}
 use Rattle.quark.specs.Feedback.{Taps, f, g, h, p}
 use Rattle.quark.specs.Step.{Registers, shift, stepL, step, steps, stepsL, allOnes, loaded, stored, rounds, P}
 use Rattle.quark.specs.Inverse.{unshift, gained, undoStepL, undoStep, undoSteps, undoP}
-use Rattle.quark.specs.leaf.Together.{gainX, gainY}
+use Rattle.quark.specs.Together.{gainX, gainY}
 use Rattle.quark.proofs.Bits.{none, more, Wide, parity-lt, bits-append, bits-take, bits-drop, bits-at, split-last, bits-replicate}
 use Rattle.quark.proofs.Taps.{Lawful}
 use Rattle.quark.proofs.Feedback.{f-zero, g-zero, h-zero}
-use Rattle.quark.proofs.Together.{registers-path, steps-L, step-gains}
+use Rattle.quark.proofs.Together.{registers-path, steps-add, stepsL-add, steps-L, step-gains}
 
 -- ---- a register that has gained a bit
 
@@ -184,6 +184,12 @@ module _ (T : Taps) (lawful : Lawful T) where
   redo-steps zero s z = refl
   redo-steps (suc n) s z = ap (step T) (redo-steps n (undoStep T s) (sized-undoStep s z)) ∙ redo-step s z
 
+  -- undone steps add up: the last ones first
+  pub undoSteps-add : (m n : ℕ) (s : Registers) → undoSteps T (m + n) s ≡ undoSteps T m (undoSteps T n s)
+  unfolding undoSteps
+  undoSteps-add m zero s = ap (λ (k : ℕ). undoSteps T k s) (add-zero m)
+  undoSteps-add m (suc n) s = ap (λ (k : ℕ). undoSteps T k s) (add-suc m n) ∙ undoSteps-add m n (undoStep T s)
+
   -- the undone L depends on L alone
   undoSteps-L : (n : ℕ) (s t : Registers) → s .L ≡ t .L → undoSteps T n s .L ≡ undoSteps T n t .L
   unfolding undoSteps undoStep
@@ -223,7 +229,7 @@ module _ (T : Taps) (lawful : Lawful T) where
     pub wide-undone : Wide (2 * T .half) (stored (undoSteps T n (loaded T s l)))
     wide-undone = wide-stored (undoSteps T n (loaded T s l)) (sized-undoSteps n (loaded T s l) (sized-loaded s l w wl))
 
-    undo-run : stored (undoSteps T n (loaded T (stored (steps T n (loaded T s l))) (stepsL n l))) ≡ s
+    pub undo-run : stored (undoSteps T n (loaded T (stored (steps T n (loaded T s l))) (stepsL n l))) ≡ s
     unfolding loaded
     undo-run =
         let start = loaded T s l in
@@ -233,19 +239,44 @@ module _ (T : Taps) (lawful : Lawful T) where
         ap (loaded T (stored end)) (sym (steps-L T n start)) ∙ loaded-stored end (sized-steps n start z) in
         ap (λ (q : Registers). stored (undoSteps T n q)) e ∙ ap stored (undo-steps n start z) ∙ stored-loaded s l
 
-    run-undone : stored (steps T n (loaded T (stored (undoSteps T n (loaded T s (stepsL n l)))) l)) ≡ s
+    -- L is undone to l, as from any registers that L's steps led to
+    pub undone-L : undoSteps T n (loaded T s (stepsL n l)) .L ≡ l
     unfolding loaded
+    undone-L =
+        let other = loaded T s l in
+        undoSteps-L n (loaded T s (stepsL n l)) (steps T n other) (sym (steps-L T n other))
+        ∙ ap (λ (q : Registers). q .L) (undo-steps n other (sized-loaded s l w wl))
+
+    pub run-undone : stored (steps T n (loaded T (stored (undoSteps T n (loaded T s (stepsL n l)))) l)) ≡ s
     run-undone =
         let end = loaded T s (stepsL n l) in
         let z = sized-loaded s (stepsL n l) w (wide-stepsL n l wl) in
         let start = undoSteps T n end in
-        -- L is undone to l, as from any registers that L's steps led to
-        let other = loaded T s l in
-        let same : start .L ≡ l =
-        undoSteps-L n end (steps T n other) (sym (steps-L T n other))
-        ∙ ap (λ (q : Registers). q .L) (undo-steps n other (sized-loaded s l w wl)) in
-        let e : loaded T (stored start) l ≡ start = ap (loaded T (stored start)) (sym same) ∙ loaded-stored start (sized-undoSteps n end z) in
+        let e : loaded T (stored start) l ≡ start = ap (loaded T (stored start)) (sym undone-L) ∙ loaded-stored start (sized-undoSteps n end z) in
         ap (λ (q : Registers). stored (steps T n q)) e ∙ ap stored (redo-steps n end z) ∙ stored-loaded s (stepsL n l)
+
+  -- a stop after m of m + n steps, with the L there, on the way forward and on the way back
+  module _ (m n : ℕ) (s : List ℕ) (w : Wide (2 * T .half) s) (l : List ℕ) (wl : Wide 10 l) where
+    pub run-on : steps T n (loaded T (stored (steps T m (loaded T s l))) (stepsL m l)) ≡ steps T (m + n) (loaded T s l)
+    unfolding loaded
+    run-on =
+        let start = loaded T s l in
+        let stop = steps T m start in
+        let e : loaded T (stored stop) (stepsL m l) ≡ stop =
+        ap (loaded T (stored stop)) (sym (steps-L T m start)) ∙ loaded-stored stop (sized-steps m start (sized-loaded s l w wl)) in
+        ap (steps T n) e ∙ sym (steps-add T m n start)
+
+    pub undone-on : undoSteps T m (loaded T (stored (undoSteps T n (loaded T s (stepsL n (stepsL m l))))) (stepsL m l))
+        ≡ undoSteps T (m + n) (loaded T s (stepsL (m + n) l))
+    undone-on =
+        let there = stepsL m l in
+        let wide = wide-stepsL m l wl in
+        let end = loaded T s (stepsL n there) in
+        let stop = undoSteps T n end in
+        let e : loaded T (stored stop) there ≡ stop =
+        ap (loaded T (stored stop)) (sym (undone-L n s w there wide))
+        ∙ loaded-stored stop (sized-undoSteps n end (sized-loaded s (stepsL n there) w (wide-stepsL n there wide))) in
+        ap (undoSteps T m) e ∙ sym (undoSteps-add m n end) ∙ ap (λ (q : List ℕ). undoSteps T (m + n) (loaded T s q)) (sym (stepsL-add m n l))
 
   -- P and its inverse, in whatever equal way they write L's start: for that `stepsL` unfolds
   module _ (s : List ℕ) (w : Wide (2 * T .half) s) where

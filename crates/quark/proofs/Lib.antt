@@ -10,6 +10,7 @@ pub mod Taps
 pub mod Feedback
 pub mod Together
 pub mod Inverse
+pub mod Groups
 pub mod Bytes
 pub mod Instance
 pub mod Padding

@@ -11,7 +11,7 @@ use lib.Seq.{drop-append-le, drop-drop, getD-drop}
 use Rattle.quark.specs.Bytes.{bit, tabulate}
 use Rattle.quark.specs.Feedback.{Taps, h}
 use Rattle.quark.specs.Step.{Registers, shift, stepL, step, steps, stepsL}
-use Rattle.quark.specs.leaf.Together.{from, gainX, gainY, gains, moved}
+use Rattle.quark.specs.Together.{from, gainX, gainY, gains, moved}
 use Rattle.quark.proofs.Taps.{all-at, Lawful, Reach}
 use Rattle.quark.proofs.Feedback.{f-local, g-local, h-local}
 

@@ -4,6 +4,7 @@ pub mod Bytes
 pub mod Feedback
 pub mod Step
 pub mod Inverse
+pub mod Together
 pub mod Instance
 pub mod Sponge
 pub mod CloseAlike

@@ -1,3 +1,2 @@
 -- Forms that only the contracts of private functions and the laws cite.
 pub mod Places
-pub mod Together

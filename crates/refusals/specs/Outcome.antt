@@ -29,6 +29,11 @@ unfoldable pub placeOf : {A : Type 0} → Outcome A → ℕ
 placeOf (accepted values) = 0
 placeOf (refused number place) = place
 
--- both, as a refusal: two zeros where the call was accepted
+-- what a lent number holds after a call: the call's value where it was accepted, else what it held before
+unfoldable pub valueOr : {A : Type 0} → Outcome A → (before : A) → A
+valueOr (accepted value) before = value
+valueOr (refused number place) before = before
+
+-- number and place, as a refusal: two zeros where the call was accepted
 unfoldable pub refusalOf : {A : Type 0} → Outcome A → Refusal
 refusalOf outcome = record { number = numberOf outcome; place = placeOf outcome }

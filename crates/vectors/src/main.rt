@@ -4,6 +4,7 @@
 // is typed from those documents.
 ghost use Prim.Native.Nat.{_<_};
 use libc::STDOUT_FILENO;
+use permutation::Stepped;
 use refusals::Answer;
 
 // A hexadecimal digit, in upper case.
@@ -113,16 +114,25 @@ fn write_bit(number: u32, i: u32)
     }
 }
 
-// Writes L after some number of steps under a heading, bit 0 first: it has the weight 512.
-fn write_lfsr(heading: &[u8], steps: u32) {
-    io::write_all(STDOUT_FILENO, heading);
-    let l = permutation::lfsr(steps);
+// Writes the ten bits of L, bit 0 first: it has the weight 512.
+fn write_l(l: u32) {
     let mut i: u32 = 10;
     while i > 0 {
         i -= 1;
         write_bit(l, i);
     }
     write_newline();
+}
+
+// Writes L after some number of steps from all ones under a heading. L's steps read no other register; S has the most.
+fn write_steps_of_l(heading: &[u8], count: u32) {
+    io::write_all(STDOUT_FILENO, heading);
+    let mut state = [0u8; 32];
+    let stepped = permutation::steps(3, 1, 1023, count, &mut state);
+    match stepped {
+        Stepped::L(l) => write_l(l),
+        Stepped::Refused(refusal) => write_refusal(Answer::Refused(refusal)),
+    }
 }
 
 fn main() {
@@ -133,6 +143,6 @@ fn main() {
     write_s(b"S-QUARK, width 1\n", 1);
     write_s(b"S-QUARK, width 8\n", 8);
     write_s(b"S-QUARK, width 16\n", 16);
-    write_lfsr(b"L after 10 steps ", 10);
-    write_lfsr(b"L after 1023 steps ", 1023);
+    write_steps_of_l(b"L after 10 steps ", 10);
+    write_steps_of_l(b"L after 1023 steps ", 1023);
 }

@@ -9,6 +9,7 @@ use refusals::number_of;
 
 mod digest;
 mod journals;
+mod steps;
 
 // Overwrites the bits of an instance's state by P of them. 0; or the number of the first of lines 1, 4 and 5 that holds, and the state is
 // untouched.

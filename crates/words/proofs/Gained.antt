@@ -8,7 +8,7 @@ use Rattle.quark.specs.Feedback.{Taps}
 use Rattle.quark.specs.Instance.{U, D, S}
 use Rattle.quark.specs.Step.{stepsL}
 use Rattle.quark.specs.Word.{wordBit, wordBits}
-use Rattle.quark.specs.leaf.Together.{from, gainX, gainY, gains}
+use Rattle.quark.specs.Together.{from, gainX, gainY, gains}
 use Rattle.quark.proofs.Taps.{Lawful, Reach, reach-less, lawful-U, lawful-D, lawful-S}
 use Rattle.quark.proofs.Together.{gainX-local, gainY-local}
 use Rattle.quark.proofs.Word.{wordBit-shr, getD-wordBits}

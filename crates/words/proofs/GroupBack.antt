@@ -6,7 +6,7 @@ use native.Mathlib.Omega.{arith}
 use Rattle.quark.specs.Feedback.{Taps, exchange, f, g, h}
 use Rattle.quark.specs.Step.{Registers, steps}
 use Rattle.quark.specs.Word.{wordBit, wordBits}
-use Rattle.quark.specs.leaf.Together.{gainX, gainY, gains, moved}
+use Rattle.quark.specs.Together.{gainX, gainY, gains, moved}
 use Rattle.quark.proofs.Together.{registers-path, steps-together}
 use Rattle.quark.proofs.Word.{wordBit-lt, length-wordBits}
 use Rattle.words.specs.declared.Register.{Register}

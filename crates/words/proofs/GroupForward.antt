@@ -11,7 +11,7 @@ use Rattle.quark.specs.Bytes.{tabulate}
 use Rattle.quark.specs.Feedback.{Taps, h}
 use Rattle.quark.specs.Step.{Registers}
 use Rattle.quark.specs.Word.{wordBit, wordBits}
-use Rattle.quark.specs.leaf.Together.{gainX, gainY, gains, moved}
+use Rattle.quark.specs.Together.{gainX, gainY, gains, moved}
 use Rattle.quark.proofs.Together.{registers-path, steps-together}
 use Rattle.quark.proofs.Word.{length-wordBits, move-wordBits}
 use Rattle.words.specs.declared.Register.{Register}

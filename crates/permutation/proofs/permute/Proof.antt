@@ -1,18 +1,18 @@
--- `permute` meets its contract: it is `overwrite`, by P.
+-- `permute` meets its contract: it is `permute_or_invert`, by P.
 use borrow.Author.Needs.{needs}
 use Rattle.permutation.specs.leaf.Core.{permuted}
 use Rattle.permutation.proofs.permute.Statement.{statement}
 use Rattle.permutation.proofs.permute.Tie as tie
 
-overwrite-requires : tie.Need-overwrite-requires
-overwrite-requires c κs = tt
+permute-or-invert-requires : tie.Need-permute-or-invert-requires
+permute-or-invert-requires c κs = tt
 
 same-length : tie.Need-same-length
 same-length c = search needs
 
 returns : tie.Need-returns
 unfolding permuted
-returns c = c .before .before .overwrite .ensures
+returns c = c .before .before .permute-or-invert .ensures
 
 pub permute-spec : {M : Type 1} → statement M
-permute-spec = tie.close (tie.spec overwrite-requires same-length returns)
+permute-spec = tie.close (tie.spec permute-or-invert-requires same-length returns)

@@ -1,19 +1,11 @@
--- The registers that stand in the cells of the serial form, and what its functions leave. Only the contracts of private functions cite
--- these forms.
+-- The taps and the bits of f, g and h, as the functions of the serial form give them. Only the contracts of private functions cite these
+-- forms.
 use mathlib.Core.Path.{_≡_}
 use mathlib.Core.List.{List, [], _∷_}
-use Prim.Native.Nat.{ℕ, _<_}
-use lib.ListN.{length, take, drop}
+use Prim.Native.Nat.{ℕ}
 use Rattle.quark.specs.Bytes.{bit}
 use Rattle.quark.specs.Feedback.{Taps, f, g, h}
-use Rattle.quark.specs.Step.{Registers, loaded}
-use Rattle.quark.specs.Instance.{Instance}
-use Rattle.quark.specs.Word.{wordBits}
-use Rattle.permutation.specs.leaf.Core.{Cells}
-
--- X and Y in the first b cells, and L's value l
-unfoldable pub registers : Instance → List ℕ → ℕ → Registers
-registers I cells l = loaded (I .taps) (take (I .b) cells) (wordBits 10 l)
+use Rattle.quark.specs.Step.{Registers}
 
 -- the taps of f's sum over thirteen bits in a row
 unfoldable pub indices : List ℕ
@@ -32,11 +24,3 @@ pub record Fed (T : Taps) (s : Registers) (f-bit g-bit h-bit : ℕ) : Type 0 whe
   pub isF : f-bit ≡ f T (bit (s .X))
   pub isG : g-bit ≡ g T (bit (s .Y))
   pub isH : h-bit ≡ h T (bit (s .X)) (bit (s .Y)) (bit (s .L))
-
--- after a step, or a step undone: the cells and L's value hold the registers s, and the cells from b on are as they were
-pub record CellsHold (I : Instance) (s : Registers) (before after : List ℕ) (l : ℕ) : Type 0 where
-  pub holds : registers I after l ≡ s
-  pub rest : drop (I .b) after ≡ drop (I .b) before
-  pub small : l < 1024
-  pub full : length after ≡ 256
-  pub cells : Cells after

@@ -9,7 +9,7 @@ use Rattle.quark.specs.Step.{loaded}
 use Rattle.quark.specs.Instance.{instanceOf}
 use Rattle.quark.specs.Word.{wordBits}
 use Rattle.quark.proofs.Bits.{bits-at}
-use Rattle.permutation.specs.leaf.Serial.{registers}
+use Rattle.permutation.specs.leaf.Core.{registers}
 use Rattle.permutation.proofs.Instances.{below}
 use Rattle.permutation.proofs.SerialSteps.{SerialCells, serial-cells, sized, x-part, y-part}
 use Rattle.permutation.proofs.serial.feedbacks.Statement.{statement}

@@ -6,9 +6,8 @@ use native.Mathlib.Omega.{arith}
 use borrow.Author.Needs.{needs}
 use Rattle.quark.specs.Step.{step, steps}
 use Rattle.quark.specs.Instance.{instanceOf}
-use Rattle.permutation.specs.leaf.Core.{ran}
-use Rattle.permutation.specs.leaf.Serial.{registers, CellsHold}
-use Rattle.permutation.proofs.SerialSteps.{hold-start, hold-next, hold-cells}
+use Rattle.permutation.specs.leaf.Core.{registersReached, registers, CellsHold}
+use Rattle.permutation.proofs.SerialSteps.{hold-start, hold-next}
 use Rattle.permutation.proofs.serial.run.Statement.{statement}
 use Rattle.permutation.proofs.serial.run.Tie as tie
 
@@ -44,12 +43,11 @@ loop-again c =
     )
 
 returns : tie.Need-returns Inv-loop μ-loop
-unfolding ran registers
+unfolding registersReached registers
 returns c =
-    let a = c .before .before .args in
     let l = c .before .loop in
-    let e : l .t ≡ a .count = omega arith in
-    rw (← e) (hold-cells (instanceOf (a .instance)) (l .inv .1))
+    let e : l .t ≡ c .before .before .args .count = omega arith in
+    rw (← e) (l .inv .1)
 
 pub run-spec : {M : Type 1} → statement M
 run-spec =

@@ -2,9 +2,9 @@
 use borrow.Author.Needs.{needs}
 use Rattle.quark.specs.Step.{loaded}
 use Rattle.quark.specs.Instance.{instanceOf}
-use Rattle.quark.specs.leaf.Together.{gainX, gainY}
+use Rattle.quark.specs.Together.{gainX, gainY}
 use Rattle.quark.proofs.Bits.{bits-at}
-use Rattle.permutation.specs.leaf.Serial.{registers}
+use Rattle.permutation.specs.leaf.Core.{registers}
 use Rattle.permutation.proofs.SingleBits.{exact, sum, _⊕_}
 use Rattle.permutation.proofs.SerialSteps.{f-small, g-small, h-small, SerialCells, serial-cells, sized, y-first, after-step}
 use Rattle.permutation.proofs.serial.step.Statement.{statement}

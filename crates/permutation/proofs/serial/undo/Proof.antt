@@ -9,9 +9,8 @@ use Rattle.quark.specs.Step.{Registers, loaded, stored, stepsL}
 use Rattle.quark.specs.Inverse.{undoSteps}
 use Rattle.quark.specs.Instance.{instanceOf}
 use Rattle.quark.specs.Word.{wordBits}
-use Rattle.permutation.specs.leaf.Core.{undone}
-use Rattle.permutation.specs.leaf.Serial.{registers, CellsHold}
-use Rattle.permutation.proofs.SerialSteps.{hold-start, hold-cells}
+use Rattle.permutation.specs.leaf.Core.{registersReached, registers, CellsHold}
+use Rattle.permutation.proofs.SerialSteps.{hold-start}
 use Rattle.permutation.proofs.serial.undo.Statement.{statement}
 use Rattle.permutation.proofs.serial.undo.Tie as tie
 
@@ -67,16 +66,11 @@ loop-again c =
     )
 
 returns : tie.Need-returns Inv-loop μ-loop
-unfolding undone undoSteps
+unfolding registersReached undoSteps
 returns c =
-    let a = c .before .before .before .args in
     let l = c .before .loop in
-    let I = instanceOf (a .instance) in
     let e : l .t ≡ 0 = omega arith in
-    let end : registers I (l .bits) (l .l-now)
-    ≡ undoSteps (I .taps) (a .count) (loaded (I .taps) (take (I .b) (a .bits .now)) (stepsL (a .count) (wordBits 10 (a .l)))) =
-    rw e at (l .inv .2) in
-    hold-cells I (l .inv .1) ∙ ap (λ (s : Registers). stored s ++ drop (I .b) (a .bits .now)) end
+    rw (← (rw e at (l .inv .2))) (l .inv .1)
 
 pub undo-spec : {M : Type 1} → statement M
 undo-spec =

@@ -2,7 +2,7 @@
 use borrow.Author.Needs.{needs}
 use Rattle.quark.specs.Step.{loaded}
 use Rattle.quark.specs.Instance.{instanceOf}
-use Rattle.permutation.specs.leaf.Serial.{registers}
+use Rattle.permutation.specs.leaf.Core.{registers}
 use Rattle.permutation.proofs.SingleBits.{single, exact, sum, _⊕_}
 use Rattle.permutation.proofs.SerialSteps.{f-small, g-small, h-small, gained-small, SerialCells, serial-cells, sized, x-gained, y-gained, after-zeros, after-undo}
 use Rattle.permutation.proofs.serial.undo_step.Statement.{statement}

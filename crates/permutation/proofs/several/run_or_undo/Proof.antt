@@ -8,8 +8,9 @@ use Rattle.quark.specs.Instance.{instanceOf}
 use Rattle.quark.proofs.Instance.{regular, in-bytes}
 use Rattle.words.specs.declared.RegisterWords.{RegisterWords}
 use Rattle.words.specs.Words.{value}
+use Rattle.permutation.specs.leaf.Core.{CellsReached}
 use Rattle.permutation.specs.leaf.Several.{written, ranOrUndoneWords}
-use Rattle.permutation.proofs.CellWords.{length-written, ran-or-undone-words, loaded-fit}
+use Rattle.permutation.proofs.CellWords.{length-written, words-reached, loaded-fit}
 use Rattle.permutation.proofs.Widths.{word-filled}
 use Rattle.permutation.proofs.several.run_or_undo.Statement.{statement}
 use Rattle.permutation.proofs.several.run_or_undo.Tie as tie
@@ -62,8 +63,11 @@ save-requires-2 c κs =
     let r = room half in
     (omega (arith, s .pre .0 .full), r .0, r .1, ap length (first one) ∙ length-written (s .args .bits .now) 0 (half .half-of .result) _ (omega arith) ∙ s .pre .0 .full)
 
-returns : tie.Need-returns
-returns c =
+-- the cells once Y is written too, and L's word
+reached : (c : tie.After-save2) → let stepped = c .before .before .before .before .before .before in
+    let s = stepped .before .before .before .before .before .before in
+    CellsReached (s .args .inverse) (instanceOf (s .args .instance)) (s .args .l) (s .args .count) (s .args .bits .now) (c .save2 .last .1 .0) (stepped .run-or-undo-words .result .l)
+reached c =
     let one = c .before .before in
     let stepped = one .before .before .before .before in
     let y = stepped .before in
@@ -77,11 +81,16 @@ returns c =
     let start : RegisterWords = record { x = x .load .result; y = y .load2 .result; l = a .l } in
     let words : stepped .run-or-undo-words .result ≡ ranOrUndoneWords (a .inverse) T (a .count) start =
     rw (loaded-fit (s .pre .0) (s .pre .1) (x .load .result) (y .load2 .result) h h e (x .load .ensures) (y .load2 .ensures)) at (stepped .run-or-undo-words .ensures) in
-    c .save2 .ensures
-    ∙ ap (λ (t : List ℕ). written t h h (value (stepped .run-or-undo-words .result .y))) (first one)
-    ∙ ap (λ (t : RegisterWords). written (written (a .bits .now) 0 h (value (t .x))) h h (value (t .y))) words
-    ∙ ran-or-undone-words (instanceOf (a .instance)) (regular (a .instance)) (a .bits .now) (omega (arith, s .pre .0 .full, in-bytes (a .instance) .at-most-256)) (x .load .result) (y .load2 .result) (a .l) (a .count) (a .inverse) h e
-    (x .load .ensures) (y .load2 .ensures)
+    rw (c .save2 .ensures, first one, words)
+    (words-reached (a .instance) (a .bits .now) (s .pre .0 .full) (s .pre .0 .single) (x .load .result) (y .load2 .result) (a .l) (a .count) (a .inverse) h e
+    (x .load .ensures) (y .load2 .ensures))
+
+cast-result : tie.Need-cast-result
+cast-result c = omega (arith, reached (c .before) .small)
+
+returns : tie.Need-returns
+returns c = reached (c .before)
 
 pub run-or-undo-spec : {M : Type 1} → statement M
-run-or-undo-spec = tie.close (tie.spec half-of-requires load-requires load-requires-2 run-or-undo-words-requires save-requires save-requires-2 returns)
+run-or-undo-spec =
+    tie.close (tie.spec half-of-requires load-requires load-requires-2 run-or-undo-words-requires save-requires save-requires-2 cast-result returns)

@@ -1,20 +1,14 @@
--- `write_lfsr` is safe and ends. The measure is i, which starts at 10.
+-- `write_l` is safe and ends. The measure is i, which starts at 10.
 use Prim.Native.Nat.{_≤_}
 use borrow.Author.Needs.{needs}
-use Rattle.vectors.proofs.write_lfsr.Statement.{statement}
-use Rattle.vectors.proofs.write_lfsr.Tie as tie
+use Rattle.vectors.proofs.write_l.Statement.{statement}
+use Rattle.vectors.proofs.write_l.Tie as tie
 
 abbrev Inv-loop : tie.InvT-loop
-Inv-loop heading steps l i₀ i = i ≤ 10
+Inv-loop l i₀ i = i ≤ 10
 
 abbrev μ-loop : tie.MeasureT-loop
-μ-loop heading steps l i₀ i = i
-
-write-all-requires : tie.Need-write-all-requires Inv-loop μ-loop
-write-all-requires c κs = search needs
-
-lfsr-requires : tie.Need-lfsr-requires Inv-loop μ-loop
-lfsr-requires c κs = tt
+μ-loop l i₀ i = i
 
 loop-holds : tie.Need-loop-holds Inv-loop μ-loop
 loop-holds c = search needs
@@ -37,6 +31,5 @@ write-newline-requires c κs = search needs
 returns : tie.Need-returns Inv-loop μ-loop
 returns c = search needs
 
-pub write-lfsr-spec : {M : Type 1} → statement M
-write-lfsr-spec =
-    tie.close (tie.spec Inv-loop μ-loop write-all-requires lfsr-requires loop-holds sub-i write-bit-requires loop-less loop-again write-newline-requires returns)
+pub write-l-spec : {M : Type 1} → statement M
+write-l-spec = tie.close (tie.spec Inv-loop μ-loop loop-holds sub-i write-bit-requires loop-less loop-again write-newline-requires returns)

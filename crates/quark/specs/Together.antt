@@ -1,7 +1,7 @@
--- Several steps together: each register moves down by w, and its w new bits come from the old registers, the bit of step j from the taps
--- moved up by j. Only the contracts of private functions and the laws cite these forms.
+-- Several steps together (document 02, 2.6): each register moves down by w, and its w new bits come from the registers at the start, the bit
+-- of step j from the taps moved up by j. L alone takes its own steps. Groups of w such steps follow one another.
 use mathlib.Core.List.{_++_}
-use Prim.Native.Nat.{ℕ, _+_, _%_}
+use Prim.Native.Nat.{ℕ, zero, suc, _+_, _%_}
 use lib.ListN.{drop}
 use Rattle.quark.specs.Bytes.{bit, tabulate}
 use Rattle.quark.specs.Feedback.{Taps, f, g, h}
@@ -22,9 +22,15 @@ gainY T X Y L = (g T Y + h T X Y L) % 2
 unfoldable pub gains : (Taps → (X Y L : ℕ → ℕ) → ℕ) → Taps → Registers → ℕ → ℕ
 gains gain T s j = gain T (from j (bit (s .X))) (from j (bit (s .Y))) (bit (stepsL j (s .L)))
 
+-- the registers after w steps together
 unfoldable pub moved : Taps → ℕ → Registers → Registers
 moved T w s = record {
   X = drop w (s .X) ++ tabulate w (gains gainX T s);
   Y = drop w (s .Y) ++ tabulate w (gains gainY T s);
   L = stepsL w (s .L);
 }
+
+-- the registers after k groups of w steps, each group from the registers at its own start
+unfoldable pub groups : Taps → (w k : ℕ) → Registers → Registers
+groups T w zero s = s
+groups T w (suc k) s = moved T w (groups T w k s)
