@@ -1,15 +1,15 @@
 -- The statements of specs/NamedClocks: what `steps` and `steps_back` do together. Each goes from the buffer to its bits, where it is a law of
 -- the definition's steps, and back.
-use mathlib.Core.Bool.{Bool, true, false, cond, not}
+use mathlib.Core.Bool.{Bool, true, false, cond}
 use mathlib.Core.List.{List}
 use mathlib.Core.Path.{_≡_, refl, sym, ap, ap₂, _∙_, subst}
 use Prim.Native.Nat.{ℕ, _+_, _*_, _%_, _<_, _≤_}
 use native.Mathlib.Omega.{arith}
 use borrow.Author.Tests.{eq-eqb, le-ltb}
-use lib.Dec.{eqb, ltb}
+use lib.Dec.{eqb}
 use lib.ListN.{length}
-use Rattle.refusals.specs.Lines.{firstLine, line5}
-use Rattle.refusals.specs.Outcome.{Outcome, accepted, outcome, numberOf}
+use Rattle.refusals.specs.Lines.{firstLine}
+use Rattle.refusals.specs.Outcome.{outcome}
 use Rattle.refusals.proofs.FirstLine.{length-right}
 use Rattle.refusals.proofs.Outcome.{accepted-left, outcome-accepted, number-of-outcome}
 use Rattle.quark.specs.Bytes.{tabulate, bitsOf, bytesOf}
@@ -25,7 +25,7 @@ use Rattle.quark.proofs.Inverse.{wide-stepsL, stored-loaded, wide-run, wide-und
 use Rattle.permutation.specs.Lines.{line1, line4, mostSteps, line20}
 use Rattle.permutation.specs.Permute.{permuteNumber, permuteOutcome, onBytes, overwritten}
 use Rattle.permutation.specs.Steps.{bitsOfL, valueOfL, registersAfter, registersBefore, stepsNumber, stepsOutcome, stepsBackOutcome, stepsBytes}
-use Rattle.permutation.specs.NamedClocks.{AreBytes, AllSteps, AllOfP, NoSteps, SameCalls, WidthsAgree, UndoEachOther, Stop, GoesOn, GoingOn, NamedClocks}
+use Rattle.permutation.specs.NamedClocks.{AreBytes, AllOfP, NoSteps, WidthsAgree, UndoEachOther, GoingOn, NamedClocks}
 use Rattle.permutation.proofs.Accepted.{accepted-instance, InRange, accepted-range, accepted-P, accepted-state}
 use Rattle.permutation.proofs.RegisterL.{wide-bitsOfL, value-small, bits-value, value-bits}
 use Rattle.permutation.proofs.Widths.{rounds-whole}

@@ -8,7 +8,7 @@ use lib.ListN.{length, getD, take, drop, set, length-append, length-take, length
 use lib.Seq.{take-take, take-at, drop-at, getD-append-add}
 use Rattle.quark.specs.Bytes.{bit}
 use Rattle.quark.specs.Feedback.{Taps, feedback, f, g, h}
-use Rattle.quark.specs.Step.{Registers, shift, stepL, step, loaded, stored}
+use Rattle.quark.specs.Step.{Registers, shift, stepL, step, loaded}
 use Rattle.quark.specs.Inverse.{unshift, gained, undoStepL, undoStep}
 use Rattle.quark.specs.Instance.{Instance, instanceOf}
 use Rattle.quark.specs.Word.{wordBits}

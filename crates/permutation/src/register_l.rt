@@ -4,7 +4,7 @@ ghost use Prim.Native.Nat.{_<_};
 ghost use Rattle.quark.specs.Step.{stepL, stepsL};
 ghost use Rattle.quark.specs.Inverse.{undoStepL};
 ghost use Rattle.quark.specs.Word.{wordBits};
-ghost use Rattle.permutation.specs.Steps.{bitsOfL, valueOfL};
+ghost use Rattle.permutation.specs.Steps.{valueOfL};
 
 // L after a step.
 pub fn next_l(l: u32) -> u32

@@ -74,10 +74,11 @@ fn definitions_have_the_same_sentences() {
             }
         }
     }
-    assert!(compared >= 19, "{compared} sentences");
+    assert!(compared >= 20, "{compared} sentences");
 }
 
 const PERMUTE: &str = "permutation/specs/Permute";
+const STEPS: &str = "permutation/specs/Steps";
 const OUTCOMES: &str = "sponge/specs/Outcomes";
 const LINES: &str = "records/specs/Lines";
 const JOURNAL: &str = "journal/specs/Journal";
@@ -119,6 +120,8 @@ fn orders() -> Vec<(&'static str, Vec<u32>)> {
     vec![
         ("permute", lines_of(PERMUTE, "permuteNumber")),
         ("invert", lines_of(PERMUTE, "permuteNumber")),
+        ("steps", lines_of(STEPS, "stepsNumber")),
+        ("steps_back", lines_of(STEPS, "stepsNumber")),
         ("init", lines_of(OUTCOMES, "initNumber")),
         ("absorb", lines_of(OUTCOMES, "absorbNumber")),
         ("finish", lines_of(OUTCOMES, "finishNumber")),

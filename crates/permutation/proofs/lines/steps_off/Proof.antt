@@ -1,6 +1,6 @@
 -- `steps_off` meets its contract: each return is decided by the tests on the way to it. Of the width 0 a count is its own remainder.
-use mathlib.Core.Bool.{true, false}
-use mathlib.Core.Path.{_≡_, sym, ap, _∙_}
+use mathlib.Core.Bool.{false}
+use mathlib.Core.Path.{_≡_, ap, _∙_}
 use Prim.Native.Nat.{ℕ, _%_, _<_, _≤_}
 use native.Mathlib.Nat.{mod-zero}
 use native.Mathlib.Omega.{arith}

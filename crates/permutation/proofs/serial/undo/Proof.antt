@@ -1,11 +1,11 @@
 -- `serial::undo` meets its contract: with t steps left to undo from what the cells hold, the end is the same.
 use mathlib.Core.Path.{_≡_, refl, sym, ap, _∙_}
-use mathlib.Core.List.{List, _++_}
+use mathlib.Core.List.{List}
 use Prim.Native.Nat.{ℕ, suc, _-_, _≤_}
-use lib.ListN.{take, drop}
+use lib.ListN.{take}
 use native.Mathlib.Omega.{arith}
 use borrow.Author.Needs.{needs}
-use Rattle.quark.specs.Step.{Registers, loaded, stored, stepsL}
+use Rattle.quark.specs.Step.{loaded, stepsL}
 use Rattle.quark.specs.Inverse.{undoSteps}
 use Rattle.quark.specs.Instance.{instanceOf}
 use Rattle.quark.specs.Word.{wordBits}

@@ -1,11 +1,9 @@
 -- `several::run_or_undo` meets its contract: the words are loaded from the cells, taken the steps or the steps back, and written back.
-use mathlib.Core.List.{List}
 use mathlib.Core.Path.{_≡_, ap, _∙_}
-use Prim.Native.Nat.{ℕ, _+_, _≤_}
+use Prim.Native.Nat.{_+_, _≤_}
 use native.Mathlib.Omega.{arith}
 use lib.ListN.{length}
 use Rattle.quark.specs.Instance.{instanceOf}
-use Rattle.quark.proofs.Instance.{regular, in-bytes}
 use Rattle.words.specs.declared.RegisterWords.{RegisterWords}
 use Rattle.words.specs.Words.{value}
 use Rattle.permutation.specs.leaf.Core.{CellsReached}
