@@ -15,7 +15,7 @@ use refusals::Answer;
 use refusals::Refusal;
 
 // L at the start of P.
-pub const ALL_ONES: u32 = 1023;
+const ALL_ONES: u32 = 1023;
 
 // The steps of P: 4b.
 pub fn rounds(instance: u32) -> u32

@@ -11,7 +11,7 @@ use Rattle.quark.specs.Inverse.{undoP}
 use Rattle.quark.specs.Instance.{Instance, U, D, S, instanceOf}
 use Rattle.quark.proofs.Bits.{Wide}
 use Rattle.quark.proofs.Bytes.{wide-bitsOf}
-use Rattle.quark.proofs.Inverse.{wide-P, wide-undoP, undo-P, redo-P}
+use Rattle.quark.proofs.Inverse.{wide-P, undo-P, redo-P}
 use Rattle.quark.proofs.Taps.{Lawful, lawful-U, lawful-D, lawful-S}
 use Rattle.quark.proofs.Tests.{every, each}
 
@@ -100,9 +100,6 @@ module _ (I : Instance) (R : Regular I) (s : List ℕ) (w : Wide (I .b) s) where
 
   pub P-wide : Wide (I .b) (P (I .taps) s)
   P-wide = subst (λ (b : ℕ). Wide b (P (I .taps) s)) (sym (R .two-halves)) (wide-P (I .taps) (R .lawful) s halves)
-
-  pub undoP-wide : Wide (I .b) (undoP (I .taps) s)
-  undoP-wide = subst (λ (b : ℕ). Wide b (undoP (I .taps) s)) (sym (R .two-halves)) (wide-undoP (I .taps) (R .lawful) s halves)
 
   pub undoP-P : undoP (I .taps) (P (I .taps) s) ≡ s
   undoP-P = undo-P (I .taps) (R .lawful) s halves
