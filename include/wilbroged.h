@@ -12,7 +12,7 @@
  * comment names, if anything, and nothing else.
  *
  * Step widths. How many steps of the permutation are taken together: 1 or 8, and 16 for S-QUARK alone. Every width gives the same bytes;
- * the widest is the fastest.
+ * the widest is usually the fastest.
  *
  * Bits. Bit i of a state or a message is in byte i div 8, with weight 2 to the (7 - i mod 8): the highest bit of a byte is its first.
  *
@@ -113,24 +113,24 @@ extern "C" {
 #endif
 
 /*
- * Overwrites a state by its permutation.
+ * Overwrites a state with its permutation.
  * Refuses by 1, 4 and 5 (state_len is not the instance's), in this order.
  */
 WILBROGED_NODISCARD
 uint32_t quark_permute(uint32_t instance, uint32_t width, uint8_t *state, size_t state_len);
 
 /*
- * Overwrites a state by the inverse of its permutation: it undoes quark_permute, whichever widths the two calls take.
+ * Overwrites a state with the inverse of its permutation: it undoes quark_permute, whichever widths the two calls take.
  * Refuses by 1, 4 and 5 (state_len is not the instance's), in this order.
  */
 WILBROGED_NODISCARD
 uint32_t quark_invert(uint32_t instance, uint32_t width, uint8_t *state, size_t state_len);
 
 /*
- * Overwrites a state by what count steps of the permutation make of it, where L has the value l before them, and writes L's value after
+ * Overwrites a state with the one after count steps of the permutation, where L has the value l before them, and writes L's value after
  * them to *l_after. From WILBROGED_L_ALL_ONES, as many steps as the instance has (WILBROGED_U_STEPS and so on) are quark_permute. A further
  * call with the state and the value of L that this one leaves goes on where this one stopped: two calls do what one does with both counts
- * together. A count of 0 and an l of 0 are lawful; from 0, L stays 0.
+ * together, where one call may take as many. A count of 0 and an l of 0 are lawful; from 0, L stays 0.
  * Refuses by 1, 4, 20 (l is over 1,023, or count is over the instance's steps or no multiple of width) and 5 (state_len is not the
  * instance's), in this order. A refused call leaves *l_after alone.
  */
@@ -138,7 +138,7 @@ WILBROGED_NODISCARD
 uint32_t quark_steps(uint32_t instance, uint32_t width, uint32_t l, uint32_t count, uint8_t *state, size_t state_len, uint32_t *l_after);
 
 /*
- * Overwrites a state by the one from before count steps of the permutation. l is L's value before those steps, and not after them: this
+ * Overwrites a state with the one from before count steps of the permutation. l is L's value before those steps, and not after them: this
  * undoes quark_steps with the same l and count, whichever widths the two calls take. It gives no value of L. With WILBROGED_L_ALL_ONES and
  * as many steps as the instance has it is quark_invert.
  * Refuses by 1, 4, 20 (l is over 1,023, or count is over the instance's steps or no multiple of width) and 5 (state_len is not the

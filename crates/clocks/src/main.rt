@@ -85,7 +85,7 @@ fn write_clock(instance: u32, count: u32, state: &mut [u8]) {
     write_refusal(permutation::steps_back(instance, 8, 1023, count, state));
 }
 
-// The table of an instance under a heading: `groups` are the groups of 8 steps in P.
+// The table of an instance under a heading. P has `groups` groups of 8 steps.
 fn write_clocks(heading: &[u8], instance: u32, groups: u32, state: &mut [u8])
     requires { ⌜ groups ≤ 128 ⌝ }
 {

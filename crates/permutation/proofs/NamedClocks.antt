@@ -3,15 +3,16 @@
 use mathlib.Core.Bool.{Bool, true, false, cond}
 use mathlib.Core.List.{List}
 use mathlib.Core.Path.{_≡_, refl, sym, ap, ap₂, _∙_, subst}
-use Prim.Native.Nat.{ℕ, _+_, _*_, _%_, _<_, _≤_}
+use Prim.Native.Nat.{ℕ, _+_, _*_, _/_, _%_, _<_, _≤_}
+use native.Mathlib.Nat.{div-add-mod'}
 use native.Mathlib.Omega.{arith}
 use borrow.Author.Tests.{eq-eqb, le-ltb}
 use lib.Dec.{eqb}
 use lib.ListN.{length}
 use Rattle.refusals.specs.Lines.{firstLine}
-use Rattle.refusals.specs.Outcome.{outcome}
+use Rattle.refusals.specs.Outcome.{accepted, outcome}
 use Rattle.refusals.proofs.FirstLine.{length-right}
-use Rattle.refusals.proofs.Outcome.{accepted-left, outcome-accepted, number-of-outcome}
+use Rattle.refusals.proofs.Outcome.{refused-left, accepted-left, refused-outcome, outcome-accepted, number-of-outcome}
 use Rattle.quark.specs.Bytes.{tabulate, bitsOf, bytesOf}
 use Rattle.quark.specs.Feedback.{Taps}
 use Rattle.quark.specs.Step.{Registers, steps, stepsL, allOnes, loaded, stored, rounds, P}
@@ -21,14 +22,15 @@ use Rattle.quark.proofs.Bits.{Wide}
 use Rattle.quark.proofs.Bytes.{wide-bitsOf, length-bytesOf, bits-of-bytes, bytes-of-bits}
 use Rattle.quark.proofs.Instance.{in-bytes, regular}
 use Rattle.quark.proofs.Together.{steps-L}
-use Rattle.quark.proofs.Inverse.{wide-stepsL, stored-loaded, wide-run, wide-undone, undo-run, run-undone, run-on, undone-on}
+use Rattle.quark.proofs.Groups.{groups-steps}
+use Rattle.quark.proofs.Inverse.{wide-stepsL, sized-loaded, stored-loaded, wide-run, wide-undone, undo-run, run-undone, run-on, undone-on}
 use Rattle.permutation.specs.Lines.{line1, line4, mostSteps, line20}
 use Rattle.permutation.specs.Permute.{permuteNumber, permuteOutcome, onBytes, overwritten}
 use Rattle.permutation.specs.Steps.{bitsOfL, valueOfL, registersAfter, registersBefore, stepsNumber, stepsOutcome, stepsBackOutcome, stepsBytes}
-use Rattle.permutation.specs.NamedClocks.{AreBytes, AllOfP, NoSteps, WidthsAgree, UndoEachOther, GoingOn, NamedClocks}
-use Rattle.permutation.proofs.Accepted.{accepted-instance, InRange, accepted-range, accepted-P, accepted-state}
+use Rattle.permutation.specs.NamedClocks.{AreBytes, RefusedLeaves, AllOfP, NoSteps, WidthsAgree, InGroups, UndoEachOther, GoingOn, NamedClocks}
+use Rattle.permutation.proofs.Accepted.{accepted-instance, accepted-width, InRange, accepted-range, accepted-P, accepted-state}
 use Rattle.permutation.proofs.RegisterL.{wide-bitsOfL, value-small, bits-value, value-bits}
-use Rattle.permutation.proofs.Widths.{rounds-whole}
+use Rattle.permutation.proofs.Widths.{width-reach, rounds-whole}
 
 -- ---- the numbers
 
@@ -98,14 +100,21 @@ module _ (R : Ways) (i w l count : ℕ) (bytes : List ℕ) (none : stepsNumber i
       → bitsOf (instanceOf i .b) (stepsBytes R i w l count bytes) ≡ stored (R l count (instanceOf i .taps) (bitsOf (instanceOf i .b) bytes))
   bits-call wide = ap (bitsOf (instanceOf i .b)) accepted-call ∙ bits-onBytes (λ T s. stored (R l count T s)) i bytes wide
 
--- two calls in a row
+-- two calls in a row: the second is accepted too, and both lead through the registers of the first
+module _ (R : Ways) (i w w′ l l′ m n : ℕ) (bytes : List ℕ) (first : stepsNumber i w l m (length bytes) ≡ 0)
+    (second : stepsNumber i w′ l′ n (length bytes) ≡ 0) where
+  second-number : stepsNumber i w′ l′ n (length (stepsBytes R i w l m bytes)) ≡ 0
+  second-number = ap (stepsNumber i w′ l′ n) (length-call R i w l m bytes first) ∙ second
+
+  back-accepted : stepsBackOutcome i w′ l′ n (stepsBytes R i w l m bytes) ≡ accepted tt
+  unfolding stepsBackOutcome outcome
+  back-accepted = ap (λ (k : ℕ). outcome k tt) second-number
+
 module _ (R R′ : Ways) (i w w′ l l′ m n : ℕ) (bytes : List ℕ) (first : stepsNumber i w l m (length bytes) ≡ 0)
     (second : stepsNumber i w′ l′ n (length bytes) ≡ 0) (wide : Wide (instanceOf i .b) (stored (R l m (instanceOf i .taps) (bitsOf (instanceOf i .b) bytes)))) where
   two-calls : stepsBytes R′ i w′ l′ n (stepsBytes R i w l m bytes) ≡ onBytes (λ T s. stored (R′ l′ n T (stored (R l m T s)))) i bytes
   two-calls =
-      let after = stepsBytes R i w l m bytes in
-      let none : stepsNumber i w′ l′ n (length after) ≡ 0 = ap (stepsNumber i w′ l′ n) (length-call R i w l m bytes first) ∙ second in
-      accepted-call R′ i w′ l′ n after none
+      accepted-call R′ i w′ l′ n (stepsBytes R i w l m bytes) (second-number R i w w′ l l′ m n bytes first second)
       ∙ ap (onBytes (λ T s. stored (R′ l′ n T s)) i) (accepted-call R i w l m bytes first)
       ∙ onBytes-onBytes (λ T s. stored (R′ l′ n T s)) (λ T s. stored (R l m T s)) i bytes wide
 
@@ -168,6 +177,17 @@ module _ (i : ℕ) (bytes : List ℕ) where
 
 -- ---- the statements
 
+refused-leaves : RefusedLeaves
+unfolding RefusedLeaves stepsOutcome stepsBackOutcome stepsBytes
+refused-leaves i w l count bytes some =
+    let number = stepsNumber i w l count (length bytes) in
+    record {
+      outcome = sym (refused-outcome _ number number refl some);
+      back-outcome = sym (refused-outcome tt number number refl some);
+      after = sym (refused-left number bytes _ some);
+      before = sym (refused-left number bytes _ some);
+    }
+
 all-of-P : AllOfP
 unfolding AllOfP stepsOutcome stepsBackOutcome stepsBytes permuteOutcome overwritten onBytes registersAfter registersBefore bitsOfL tabulate allOnes P undoP
 all-of-P i w bytes =
@@ -197,18 +217,33 @@ widths-agree i w w′ l count bytes width width′ whole whole′ =
     let e = same-number i w w′ l count (length bytes) width width′ whole whole′ in
     record { outcome = rw e; back-outcome = rw e; after = rw e; before = rw e }
 
+in-groups : InGroups
+unfolding InGroups registersAfter
+in-groups i w l count bytes none =
+    let T = instanceOf i .taps in
+    let start = loaded T (bitsOf (instanceOf i .b) bytes) (bitsOfL l) in
+    let reach = width-reach i w (accepted-width i w (length bytes) (accepted-P i w l count (length bytes) none)) in
+    let sized = sized-loaded T (regular i .lawful) (bitsOf (instanceOf i .b) bytes) (bitsOfL l) (halves i bytes) (wide-bitsOfL l) in
+    let whole : count / w * w ≡ count = omega (arith, div-add-mod' count w, accepted-range i w l count (length bytes) none .whole) in
+    sym (groups-steps T (regular i .lawful) w reach (count / w) start sized ∙ ap (λ (n : ℕ). steps T n start) whole)
+
 undo-each-other : UndoEachOther
-unfolding UndoEachOther
+unfolding UndoEachOther stepsOutcome
 undo-each-other i w w′ l count bytes are none none′ =
-    let size = accepted-state i w l count (length bytes) none in (
-      two-calls registersAfter registersBefore i w w′ l l count count bytes none none′ (wide-after i bytes l count)
-          ∙ onBytes-same _ i bytes size are (before-after i bytes l count),
-      two-calls registersBefore registersAfter i w w′ l l count count bytes none none′ (wide-before i bytes l count)
-          ∙ onBytes-same _ i bytes size are (after-before i bytes l count),
-    )
+    let size = accepted-state i w l count (length bytes) none in
+    record {
+      back-accepted = back-accepted registersAfter i w w′ l l count count bytes none none′;
+      back =
+          two-calls registersAfter registersBefore i w w′ l l count count bytes none none′ (wide-after i bytes l count)
+          ∙ onBytes-same _ i bytes size are (before-after i bytes l count);
+      again-accepted = number-of-outcome _ _ ∙ second-number registersBefore i w w′ l l count count bytes none none′;
+      again =
+          two-calls registersBefore registersAfter i w w′ l l count count bytes none none′ (wide-before i bytes l count)
+          ∙ onBytes-same _ i bytes size are (after-before i bytes l count);
+    }
 
 going-on : GoingOn
-unfolding GoingOn stepsOutcome onBytes
+unfolding GoingOn stepsOutcome stepsBackOutcome outcome onBytes
 going-on i w w′ w″ l m n l′ bytes stop =
     let T = instanceOf i .taps in
     let s = bitsOf (instanceOf i .b) bytes in
@@ -223,13 +258,15 @@ going-on i w w′ w″ l m n l′ bytes stop =
     record {
       outcome =
           ap₂ (λ (k v : ℕ). outcome k v)
-          (ap (stepsNumber i w′ l′ n) (length-call registersAfter i w l m bytes none) ∙ none′ ∙ sym (stop .through))
+          (second-number registersAfter i w w′ l l′ m n bytes none none′ ∙ sym (stop .through))
           (ap (λ (r : Registers). valueOfL (r .L))
           (ap (registersAfter l′ n T) (bits-call registersAfter i w l m bytes none (wide-after i bytes l m)) ∙ on));
       after =
           two-calls registersAfter registersAfter i w w′ l l′ m n bytes none none′ (wide-after i bytes l m)
           ∙ ap (λ (r : Registers). bytesOf (stateBytes i) (stored r)) on
           ∙ sym (accepted-call registersAfter i w″ l (m + n) bytes (stop .through));
+      back-accepted = ap (λ (k : ℕ). outcome k tt) none′;
+      back-on-accepted = back-accepted registersBefore i w′ w l′ l n m bytes none′ none;
       before =
           two-calls registersBefore registersBefore i w′ w l′ l n m bytes none′ none (wide-before i bytes l′ n)
           ∙ ap (λ (r : Registers). bytesOf (stateBytes i) (stored r)) (before-on i bytes l m n l′ (first .1))
@@ -238,9 +275,11 @@ going-on i w w′ w″ l m n l′ bytes stop =
 
 pub named-clocks : NamedClocks
 named-clocks = record {
+  refused-leaves = refused-leaves;
   all-of-P = all-of-P;
   no-steps = no-steps;
   widths-agree = widths-agree;
+  in-groups = in-groups;
   undo-each-other = undo-each-other;
   going-on = going-on;
 }

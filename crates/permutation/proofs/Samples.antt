@@ -5,15 +5,17 @@ use mathlib.Core.Path.{_≡_, refl}
 use Prim.Native.Nat.{ℕ}
 use lib.ListN.{replicate, set}
 use Rattle.refusals.specs.Lines.{firstLine, line5}
-use Rattle.refusals.specs.Outcome.{accepted, outcome}
+use Rattle.refusals.specs.Outcome.{accepted, refused, outcome, valueOr}
 use Rattle.quark.specs.Bytes.{tabulate, bitAt, bitsOf, byteAt, bytesOf}
 use Rattle.quark.specs.Feedback.{f, g, h, p, feedback, exchange, sumAt}
 use Rattle.quark.specs.Step.{shift, stepL, step, steps, stepsL, loaded, stored, rounds}
 use Rattle.quark.specs.Inverse.{unshift, gained, undoStepL, undoStep, undoSteps}
 use Rattle.quark.specs.Instance.{U, D, S, instanceOf, isInstance, isWidth, stateBytes}
+use Rattle.permutation.specs.declared.Stepped.the-variants.{L, Refused}
 use Rattle.permutation.specs.Lines.{line1, line4, mostSteps, line20}
 use Rattle.permutation.specs.Permute.{permuteNumber, onBytes}
-use Rattle.permutation.specs.Steps.{bitsOfL, valueOfL, registersAfter, registersBefore, stepsNumber, stepsOutcome, stepsBytes}
+use Rattle.permutation.specs.Steps.{bitsOfL, valueOfL, registersAfter, registersBefore, stepsNumber, steppedOutcome, stepsOutcome, stepsBackOutcome, stepsBytes}
+use Rattle.permutation.specs.NamedClocks.{Stop}
 
 pub order :
     -- all of lines 1, 4 and 5 hold; lines 1 and 4; lines 1 and 5
@@ -50,10 +52,12 @@ pub steps-edges :
     × (stepsNumber 1 1 0 0 17 ≡ 0) × (stepsNumber 1 1 0 544 17 ≡ 0) × (stepsNumber 1 1 0 545 17 ≡ 20) × (stepsNumber 1 8 0 552 17 ≡ 20)
     × (stepsNumber 2 8 0 0 22 ≡ 0) × (stepsNumber 2 8 0 704 22 ≡ 0) × (stepsNumber 2 8 0 712 22 ≡ 20)
     × (stepsNumber 3 16 0 0 32 ≡ 0) × (stepsNumber 3 16 0 1024 32 ≡ 0) × (stepsNumber 3 16 0 1040 32 ≡ 20)
+    × (stepsNumber 3 1 0 1025 32 ≡ 20) × (stepsNumber 3 8 0 1032 32 ≡ 20)
     -- whole groups, and others
     × (stepsNumber 3 1 0 1023 32 ≡ 0) × (stepsNumber 3 8 0 24 32 ≡ 0) × (stepsNumber 3 16 0 24 32 ≡ 20) × (stepsNumber 3 8 0 20 32 ≡ 20)
+    × (stepsNumber 1 8 0 12 17 ≡ 20) × (stepsNumber 2 8 0 12 22 ≡ 20)
 unfolding stepsNumber firstLine line1 line4 mostSteps line20 line5 isInstance isWidth stateBytes instanceOf rounds U D S
-steps-edges = (refl, refl, refl, refl, refl, refl, refl, refl, refl, refl, refl, refl, refl, refl, refl, refl, refl)
+steps-edges = (refl, refl, refl, refl, refl, refl, refl, refl, refl, refl, refl, refl, refl, refl, refl, refl, refl, refl, refl, refl, refl)
 
 -- bit 0 has weight 512, and bit 9 weight 1
 pub values-of-L :
@@ -74,12 +78,34 @@ pub first-steps :
     -- one step from all ones, as document 01 has it; L is 1111111110
     (stepsOutcome 1 1 1023 1 zeros ≡ accepted 1022) × (stepsBytes registersAfter 1 1 1023 1 zeros ≡ both-67)
     × (stepsBytes registersBefore 1 1 1023 1 both-67 ≡ zeros)
-    -- from L0 alone, from L3 alone and from L9 alone
+    -- from L0 alone, from L3 alone, from L9 alone, and from zeros, where h reads X1
     × (stepsOutcome 1 1 512 1 zeros ≡ accepted 1) × (stepsBytes registersAfter 1 1 512 1 zeros ≡ both-67)
     × (stepsOutcome 1 1 64 1 zeros ≡ accepted 129) × (stepsBytes registersAfter 1 1 64 1 zeros ≡ zeros)
     × (stepsOutcome 1 1 1 1 zeros ≡ accepted 2) × (stepsBytes registersAfter 1 1 1 1 zeros ≡ zeros)
+    × (stepsOutcome 1 1 0 1 (set zeros 0 64) ≡ accepted 0) × (stepsBytes registersAfter 1 1 0 1 (set zeros 0 64) ≡ set both-67 0 128)
     -- two steps from L1 alone: the second finds it in L0
     × (stepsOutcome 1 1 256 2 zeros ≡ accepted 1) × (stepsBytes registersAfter 1 1 256 2 zeros ≡ both-67)
     × (stepsBytes registersBefore 1 1 256 2 both-67 ≡ zeros)
 unfolding stepsOutcome stepsBytes outcome stepsNumber firstLine line1 line4 mostSteps line20 line5 onBytes registersAfter registersBefore bitsOfL valueOfL tabulate bitAt bitsOf byteAt bytesOf isInstance isWidth stateBytes instanceOf rounds U f g h p feedback exchange sumAt shift stepL step steps stepsL loaded stored unshift gained undoStepL undoStep undoSteps
-first-steps = (refl, refl, refl, refl, refl, refl, refl, refl, refl, refl, refl, refl)
+first-steps = (refl, refl, refl, refl, refl, refl, refl, refl, refl, refl, refl, refl, refl, refl)
+
+-- a buffer whose bytes are no zeros
+abbrev full : List ℕ
+full = replicate 17 165
+
+pub steps-answers :
+    -- refused by 20, number and place, and the buffer as it was: for the start value, and for steps that are not whole groups
+    (stepsOutcome 1 8 1024 8 full ≡ refused 20 0) × (stepsBytes registersAfter 1 8 1024 8 full ≡ full)
+    × (stepsBackOutcome 1 8 1023 12 full ≡ refused 20 0) × (stepsBytes registersBefore 1 8 1023 12 full ≡ full)
+    × (stepsBackOutcome 1 1 1023 1 full ≡ accepted tt)
+    -- what an answer stands for
+    × (steppedOutcome (L 5) ≡ accepted 5) × (steppedOutcome (Refused (record { number = 20; place = 3 })) ≡ refused 20 3)
+    -- what a lent number holds after a call
+    × (_≡_ {A = ℕ} (valueOr (accepted 5) 7) 5) × (_≡_ {A = ℕ} (valueOr (refused 20 0) 7) 7)
+unfolding stepsOutcome stepsBackOutcome steppedOutcome valueOr stepsBytes outcome stepsNumber firstLine line1 line4 mostSteps line20 line5 isInstance isWidth stateBytes instanceOf rounds U
+steps-answers = (refl, refl, refl, refl, refl, refl, refl, refl, refl)
+
+-- a stop, of which `NamedClocks.GoingOn` speaks: one step of U at width 1 and seven more are eight at width 8
+pub stop : Stop 1 1 1 8 1023 1 7 1022 zeros
+unfolding stepsNumber firstLine line1 line4 mostSteps line20 line5 isInstance isWidth stateBytes instanceOf rounds U
+stop = record { stops = first-steps .0; width = refl; whole = refl; through = refl }

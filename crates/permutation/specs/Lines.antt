@@ -1,5 +1,5 @@
 -- The lines that read an instance's number, a step width, a start value of L and a step count (docs/RULES.md). Each is defined for every
--- number: of the width 0, which line 4 refuses, only 0 is a multiple.
+-- number: line 4 refuses a width of 0, and in line 20 only 0 counts as its multiple.
 use mathlib.Core.Bool.{Bool, not, _||_}
 use Prim.Native.Nat.{ℕ, _%_}
 use lib.Dec.{eqb, ltb}

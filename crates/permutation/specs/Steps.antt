@@ -40,6 +40,7 @@ registersBefore l count T s = undoSteps T count (loaded T s (stepsL count (bitsO
 
 -- ---- the calls
 
+-- the number of the first of lines 1, 4, 20 and 5 that holds, of both calls
 unfoldable pub stepsNumber : (i w l count length : ℕ) → ℕ
 stepsNumber i w l count length =
     firstLine ((line1 i, 1) ∷ (line4 i w, 4) ∷ (line20 i w l count, 20) ∷ (line5 length (stateBytes i), 5) ∷ [])

@@ -1,5 +1,5 @@
-// The stepping cores by step width. They take L's start value and a step count; P and its inverse pass all ones and 4b.
-// Assumes that every cell is 0 or 1.
+// The stepping cores by step width. They take L before the steps, a number with bit i at weight 2 to the i, and a step count; P and its
+// inverse pass all ones and 4b. Assumes that every cell is 0 or 1.
 ghost use mathlib.Core.Path.{_≡_};
 ghost use lib.ListN.{length};
 ghost use Rattle.refusals.specs.Outcome.{outcomeOf};
@@ -52,7 +52,7 @@ fn run_or_undo(
     serial::run(bits, instance, l, count)
 }
 
-// Overwrites the bits of an instance's state by X, then Y after `count` steps, or from before them. L begins at l before the first of them.
+// Overwrites the bits of an instance's state with X, then Y after `count` steps, or from before them. L begins at l before the first of them.
 // Returns L after the steps, or before them.
 pub fn overwrite(
     inverse: bool,
@@ -73,7 +73,7 @@ pub fn overwrite(
     reached
 }
 
-// Overwrites the bits of an instance's state by P of them, or by P's inverse.
+// Overwrites the bits of an instance's state with P of them, or with P's inverse.
 pub fn permute_or_invert(inverse: bool, instance: u32, width: u32, buffer: &mut [u8]) -> Answer
     ensures answer { λ r. ⌜ outcomeOf r ≡ permuteOutcome instance width (now (buffer .entry)) ⌝ }
     ensures bytes { λ _. ⌜ now (buffer .exit) ≡ overwritten (permuted inverse) instance width (now (buffer .entry)) ⌝ }

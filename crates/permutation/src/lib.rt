@@ -23,7 +23,7 @@ pub enum Stepped {
     Refused(Refusal),
 }
 
-// Overwrites the bits of an instance's state by P of them, `width` steps together.
+// Overwrites the bits of an instance's state with P of them, `width` steps together.
 // Refuses by lines 1, 4 and 5, in this order; the buffer is then untouched.
 pub fn permute(instance: u32, width: u32, buffer: &mut [u8]) -> Answer
     ensures answer { λ r. ⌜ outcomeOf r ≡ permuteOutcome instance width (now (buffer .entry)) ⌝ }
@@ -32,7 +32,7 @@ pub fn permute(instance: u32, width: u32, buffer: &mut [u8]) -> Answer
     core::permute_or_invert(false, instance, width, buffer)
 }
 
-// Overwrites the bits of an instance's state by P's inverse of them, `width` steps undone together.
+// Overwrites the bits of an instance's state with P's inverse of them, `width` steps undone together.
 // Refuses by lines 1, 4 and 5, in this order; the buffer is then untouched.
 pub fn invert(instance: u32, width: u32, buffer: &mut [u8]) -> Answer
     ensures answer { λ r. ⌜ outcomeOf r ≡ permuteOutcome instance width (now (buffer .entry)) ⌝ }
@@ -41,7 +41,7 @@ pub fn invert(instance: u32, width: u32, buffer: &mut [u8]) -> Answer
     core::permute_or_invert(true, instance, width, buffer)
 }
 
-// Overwrites the bits of an instance's state by X, then Y after `count` steps of P, `width` together, and answers L after them. L begins at
+// Overwrites the bits of an instance's state with X, then Y after `count` steps of P, `width` together, and answers L after them. L begins at
 // the value l; here and in the answer its bit 0 has weight 512.
 // Refuses by lines 1, 4, 20 and 5, in this order; the buffer is then untouched.
 pub fn steps(instance: u32, width: u32, l: u32, count: u32, buffer: &mut [u8]) -> Stepped
@@ -57,7 +57,7 @@ pub fn steps(instance: u32, width: u32, l: u32, count: u32, buffer: &mut [u8]) -
     Stepped::L(register_l::mirrored(after))
 }
 
-// Overwrites the bits of an instance's state by X, then Y from before `count` steps of P, `width` undone together. L began at the value l
+// Overwrites the bits of an instance's state with X, then Y from before `count` steps of P, `width` undone together. L began at the value l
 // before these steps, with weight 512 for its bit 0.
 // Refuses by lines 1, 4, 20 and 5, in this order; the buffer is then untouched.
 pub fn steps_back(instance: u32, width: u32, l: u32, count: u32, buffer: &mut [u8]) -> Answer

@@ -41,7 +41,7 @@ pub fn buffer_line(instance: u32, width: u32, length: usize) -> u32
     first(!is_instance(instance), UNKNOWN_INSTANCE, unknown_width)
 }
 
-// Whether line 20 holds. Of the width 0, which line 4 refuses, only 0 is a multiple.
+// Whether line 20 holds. Line 4 refuses a width of 0; here only 0 counts as its multiple.
 fn steps_off(instance: u32, width: u32, l: u32, count: u32) -> bool
     ensures { λ r. ⌜ r ≡ line20 instance width l count ⌝ }
 {

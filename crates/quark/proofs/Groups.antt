@@ -5,11 +5,13 @@ use mathlib.Core.Path.{_≡_, refl, sym, ap, _∙_}
 use Prim.Native.Nat.{ℕ, zero, suc, _*_}
 use native.Mathlib.Nat.{zero-mul, suc-mul}
 use native.Mathlib.Omega.{arith}
-use Rattle.quark.specs.Feedback.{Taps}
-use Rattle.quark.specs.Step.{Registers, steps}
+use Rattle.quark.specs.Bytes.{bit, tabulate}
+use Rattle.quark.specs.Feedback.{Taps, f, g, h, p, feedback, exchange, sumAt}
+use Rattle.quark.specs.Step.{Registers, shift, stepL, step, steps, stepsL}
 use Rattle.quark.specs.Inverse.{undoSteps}
 use Rattle.quark.specs.Instance.{U}
-use Rattle.quark.specs.Together.{moved, groups}
+use Rattle.quark.specs.Together.{gainX, gainY, gains, moved, groups}
+use Rattle.quark.proofs.Samples.{zeros}
 use Rattle.quark.proofs.Taps.{Lawful, Reach, reach-less, lawful-U}
 use Rattle.quark.proofs.Together.{steps-add, steps-together}
 use Rattle.quark.proofs.Inverse.{Sized, sized-steps, sized-undoSteps, undo-steps, redo-steps}
@@ -58,3 +60,8 @@ module _ (s : Registers) (sized : Sized (U .taps) s) where
     undo-groups (U .taps) (lawful-U .0) 5 reach-5 7 s sized,
     undo-groups (U .taps) (lawful-U .0) 7 reach-7 5 s sized,
   )
+
+-- past the greatest width: ten steps of U together, from zeros with an L of ones, are not ten steps
+pub U-by-10 : (bit (groups (U .taps) 10 1 zeros .X) 67 ≡ 1) × (bit (steps (U .taps) 10 zeros .X) 67 ≡ 0)
+unfolding groups moved gains gainX gainY tabulate f g h p feedback exchange sumAt shift stepL step steps stepsL U
+U-by-10 = (refl, refl)

@@ -27,7 +27,7 @@ abbrev withL0 : ℕ → ℕ → ℕ
 withL0 v = bit (v ∷ replicate 9 1)
 
 -- U's registers: all zero, with L all ones
-abbrev zeros : Registers
+abbrev pub zeros : Registers
 zeros = record { X = replicate 68 0; Y = replicate 68 0; L = replicate 10 1 }
 
 abbrev blocks : Instance → ℕ → ℕ

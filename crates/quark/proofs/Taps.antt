@@ -160,3 +160,8 @@ lawful-D = tested (D .taps) 8 tt
 pub lawful-S : Lawful (S .taps) × Reach (S .taps) 16
 unfolding S tests testAll above within
 lawful-S = tested (S .taps) 16 tt
+
+-- the greatest widths for which the laws of several steps hold: the highest taps are 59, 79 and 111
+pub greatest-reach : Reach (U .taps) 9 × Reach (D .taps) 9 × Reach (S .taps) 17
+unfolding U D S tests testAll above within
+greatest-reach = (tested (U .taps) 9 tt .1, tested (D .taps) 9 tt .1, tested (S .taps) 17 tt .1)

@@ -1,5 +1,5 @@
--- Several steps together (document 02, 2.6): each register moves down by w, and its w new bits come from the registers at the start, the bit
--- of step j from the taps moved up by j. L alone takes its own steps. Groups of w such steps follow one another.
+-- Several steps together (document 02, 2.6): X and Y move down by w, and their w new bits come from the registers at the start, the bit of
+-- step j from the taps moved up by j. L is stepped w times by itself. Groups of w such steps follow one another.
 use mathlib.Core.List.{_++_}
 use Prim.Native.Nat.{ℕ, zero, suc, _+_, _%_}
 use lib.ListN.{drop}

@@ -11,7 +11,7 @@ mod digest;
 mod journals;
 mod steps;
 
-// Overwrites the bits of an instance's state by P of them. 0; or the number of the first of lines 1, 4 and 5 that holds, and the state is
+// Overwrites the bits of an instance's state with P of them. 0; or the number of the first of lines 1, 4 and 5 that holds, and the state is
 // untouched.
 #[no_mangle]
 pub extern "C" fn quark_permute(instance: u32, width: u32, state: &mut [u8]) -> u32
@@ -21,7 +21,7 @@ pub extern "C" fn quark_permute(instance: u32, width: u32, state: &mut [u8]) -> 
     number_of(permutation::permute(instance, width, state))
 }
 
-// Overwrites the bits of an instance's state by P's inverse of them, with the same answers.
+// Overwrites the bits of an instance's state with P's inverse of them, with the same answers.
 #[no_mangle]
 pub extern "C" fn quark_invert(instance: u32, width: u32, state: &mut [u8]) -> u32
     ensures number { λ r. ⌜ r ≡ numberOf (permuteOutcome instance width (now (state .entry))) ⌝ }

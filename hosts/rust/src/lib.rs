@@ -2,7 +2,7 @@
 //! digest, and the sealed journal.
 //!
 //! An instance of QUARK is a number: [`U`], [`D`] or [`S`]. A step width says how many steps are taken together: 1 or 8, and 16 for `S`
-//! alone. Every width gives the same bytes, and the widest is the fastest. Bit i of a state or a message is in byte i div 8 with weight
+//! alone. Every width gives the same bytes, and the widest is usually the fastest. Bit i of a state or a message is in byte i div 8 with weight
 //! 2 to the (7 - i mod 8).
 //!
 //! The steps of the permutation P work on three registers: X is the first half of a state, Y the second, and L has ten bits of its own. L's

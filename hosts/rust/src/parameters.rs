@@ -4,7 +4,7 @@
 pub const U: u32 = 1;
 /// The bytes of a state and of a digest of U.
 pub const U_BYTES: usize = 17;
-/// The widest step width of U, which is the fastest.
+/// The widest step width of U, usually the fastest.
 pub const U_WIDTH: u32 = 8;
 /// The steps of U's permutation.
 pub const U_STEPS: u32 = 544;
@@ -13,7 +13,7 @@ pub const U_STEPS: u32 = 544;
 pub const D: u32 = 2;
 /// The bytes of a state and of a digest of D.
 pub const D_BYTES: usize = 22;
-/// The widest step width of D, which is the fastest.
+/// The widest step width of D, usually the fastest.
 pub const D_WIDTH: u32 = 8;
 /// The steps of D's permutation.
 pub const D_STEPS: u32 = 704;
@@ -22,7 +22,7 @@ pub const D_STEPS: u32 = 704;
 pub const S: u32 = 3;
 /// The bytes of a state and of a digest of S.
 pub const S_BYTES: usize = 32;
-/// The widest step width of S, which is the fastest.
+/// The widest step width of S, usually the fastest.
 pub const S_WIDTH: u32 = 16;
 /// The steps of S's permutation.
 pub const S_STEPS: u32 = 1_024;

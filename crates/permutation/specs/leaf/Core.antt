@@ -26,6 +26,7 @@ pub record Allowed (instance width l count : ℕ) : Type 0 where
   pub whole : count % width ≡ 0
   pub small : l < 1024
 
+-- such steps, and the cells: 256 bits
 pub record Steppable (instance width l count : ℕ) (cells : List ℕ) : Type 0 where
   pub allowed : Allowed instance width l count
   pub full : length cells ≡ 256
@@ -51,12 +52,12 @@ pub record CellsHold (I : Instance) (s : Registers) (before after : List ℕ) (l
   pub full : length after ≡ 256
   pub cells : Cells after
 
--- the cells and L's value after such steps, or from before them
+-- the cells and L's value after `count` steps from L's value l, or from before them
 abbrev pub CellsReached : (inverse : Bool) → Instance → (l count : ℕ) → (before after : List ℕ) → (l-reached : ℕ) → Type 0
 CellsReached inverse I l count before after l-reached =
     CellsHold I (registersReached inverse (I .taps) l count (take (I .b) before)) before after l-reached
 
--- a buffer and L's value after such steps, or from before them
+-- a buffer and L's value after `count` steps from L's value l, or from before them
 pub record BufferReached (inverse : Bool) (instance l count : ℕ) (before after : List ℕ) (l-reached : ℕ) : Type 0 where
   pub bytes : after ≡ onBytes (λ T s. stored (registersReached inverse T l count s)) instance before
   pub small : l-reached < 1024

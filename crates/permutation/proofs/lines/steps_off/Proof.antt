@@ -1,4 +1,4 @@
--- `steps_off` meets its contract: each return is decided by the tests on the way to it. Of the width 0 a count is its own remainder.
+-- `steps_off` meets its contract: each return is decided by the tests on the way to it. By a width of 0 a count is its own remainder.
 use mathlib.Core.Bool.{false}
 use mathlib.Core.Path.{_≡_, ap, _∙_}
 use Prim.Native.Nat.{ℕ, _%_, _<_, _≤_}
