@@ -18,16 +18,18 @@ use Rattle.quark.specs.Feedback.{Taps}
 use Rattle.quark.specs.Step.{Registers, steps, stepsL, allOnes, loaded, stored, rounds, P}
 use Rattle.quark.specs.Inverse.{undoSteps, undoP}
 use Rattle.quark.specs.Instance.{instanceOf, isInstance, isWidth, stateBytes}
+use Rattle.quark.specs.Together.{groups}
 use Rattle.quark.proofs.Bits.{Wide}
 use Rattle.quark.proofs.Bytes.{wide-bitsOf, length-bytesOf, bits-of-bytes, bytes-of-bits}
 use Rattle.quark.proofs.Instance.{in-bytes, regular}
+use Rattle.quark.proofs.Taps.{Reach}
 use Rattle.quark.proofs.Together.{steps-L}
-use Rattle.quark.proofs.Groups.{groups-steps}
-use Rattle.quark.proofs.Inverse.{wide-stepsL, sized-loaded, stored-loaded, wide-run, wide-undone, undo-run, run-undone, run-on, undone-on}
+use Rattle.quark.proofs.Groups.{groups-steps, redo-groups}
+use Rattle.quark.proofs.Inverse.{Sized, wide-stepsL, sized-loaded, stored-loaded, wide-run, wide-undone, undo-run, run-undone, run-on, undone-on}
 use Rattle.permutation.specs.Lines.{line1, line4, mostSteps, line20}
 use Rattle.permutation.specs.Permute.{permuteNumber, permuteOutcome, onBytes, overwritten}
 use Rattle.permutation.specs.Steps.{bitsOfL, valueOfL, registersAfter, registersBefore, stepsNumber, stepsOutcome, stepsBackOutcome, stepsBytes}
-use Rattle.permutation.specs.NamedClocks.{AreBytes, RefusedLeaves, AllOfP, NoSteps, WidthsAgree, InGroups, UndoEachOther, GoingOn, NamedClocks}
+use Rattle.permutation.specs.NamedClocks.{AreBytes, AcceptedExactly, RefusedLeaves, AllOfP, NoSteps, WidthsAgree, InGroups, BackInGroups, UndoEachOther, GoingOn, NamedClocks}
 use Rattle.permutation.proofs.Accepted.{accepted-instance, accepted-width, InRange, accepted-range, accepted-P, accepted-state}
 use Rattle.permutation.proofs.RegisterL.{wide-bitsOfL, value-small, bits-value, value-bits}
 use Rattle.permutation.proofs.Widths.{width-reach, rounds-whole}
@@ -177,6 +179,22 @@ module _ (i : ℕ) (bytes : List ℕ) where
 
 -- ---- the statements
 
+accepted-exactly : AcceptedExactly
+unfolding AcceptedExactly mostSteps
+accepted-exactly i w l count size = (
+  λ none. let of-P = accepted-P i w l count size none in
+      let range = accepted-range i w l count size none in
+      record {
+        instance = accepted-instance i w size of-P;
+        width = accepted-width i w size of-P;
+        start = omega (arith, range .start);
+        few = range .few;
+        whole = range .whole;
+        length = accepted-state i w l count size none;
+      },
+  λ call. none-steps (call .instance) (call .width) (record { start = omega (arith, call .start); few = call .few; whole = call .whole }) (call .length),
+)
+
 refused-leaves : RefusedLeaves
 unfolding RefusedLeaves stepsOutcome stepsBackOutcome stepsBytes
 refused-leaves i w l count bytes some =
@@ -217,15 +235,35 @@ widths-agree i w w′ l count bytes width width′ whole whole′ =
     let e = same-number i w w′ l count (length bytes) width width′ whole whole′ in
     record { outcome = rw e; back-outcome = rw e; after = rw e; before = rw e }
 
+-- groups of an accepted call's width
+module _ (i w l count : ℕ) (bytes : List ℕ) (none : stepsNumber i w l count (length bytes) ≡ 0) where
+  call-reach : Reach (instanceOf i .taps) w
+  call-reach = width-reach i w (accepted-width i w (length bytes) (accepted-P i w l count (length bytes) none))
+
+  all-groups : count / w * w ≡ count
+  all-groups = omega (arith, div-add-mod' count w, accepted-range i w l count (length bytes) none .whole)
+
+  call-sized : (L : List ℕ) → Wide 10 L → Sized (instanceOf i .taps) (loaded (instanceOf i .taps) (bitsOf (instanceOf i .b) bytes) L)
+  call-sized L wide = sized-loaded (instanceOf i .taps) (regular i .lawful) (bitsOf (instanceOf i .b) bytes) L (halves i bytes) wide
+
 in-groups : InGroups
 unfolding InGroups registersAfter
 in-groups i w l count bytes none =
     let T = instanceOf i .taps in
     let start = loaded T (bitsOf (instanceOf i .b) bytes) (bitsOfL l) in
-    let reach = width-reach i w (accepted-width i w (length bytes) (accepted-P i w l count (length bytes) none)) in
-    let sized = sized-loaded T (regular i .lawful) (bitsOf (instanceOf i .b) bytes) (bitsOfL l) (halves i bytes) (wide-bitsOfL l) in
-    let whole : count / w * w ≡ count = omega (arith, div-add-mod' count w, accepted-range i w l count (length bytes) none .whole) in
-    sym (groups-steps T (regular i .lawful) w reach (count / w) start sized ∙ ap (λ (n : ℕ). steps T n start) whole)
+    let sized = call-sized i w l count bytes none (bitsOfL l) (wide-bitsOfL l) in
+    sym (groups-steps T (regular i .lawful) w (call-reach i w l count bytes none) (count / w) start sized
+    ∙ ap (λ (n : ℕ). steps T n start) (all-groups i w l count bytes none))
+
+back-in-groups : BackInGroups
+unfolding BackInGroups registersBefore
+back-in-groups i w l count bytes none =
+    let T = instanceOf i .taps in
+    let L = stepsL count (bitsOfL l) in
+    let end = loaded T (bitsOf (instanceOf i .b) bytes) L in
+    let sized = call-sized i w l count bytes none L (wide-stepsL count (bitsOfL l) (wide-bitsOfL l)) in
+    ap (λ (n : ℕ). groups T w (count / w) (undoSteps T n end)) (sym (all-groups i w l count bytes none))
+    ∙ redo-groups T (regular i .lawful) w (call-reach i w l count bytes none) (count / w) end sized
 
 undo-each-other : UndoEachOther
 unfolding UndoEachOther stepsOutcome
@@ -275,11 +313,13 @@ going-on i w w′ w″ l m n l′ bytes stop =
 
 pub named-clocks : NamedClocks
 named-clocks = record {
+  accepted-exactly = accepted-exactly;
   refused-leaves = refused-leaves;
   all-of-P = all-of-P;
   no-steps = no-steps;
   widths-agree = widths-agree;
   in-groups = in-groups;
+  back-in-groups = back-in-groups;
   undo-each-other = undo-each-other;
   going-on = going-on;
 }

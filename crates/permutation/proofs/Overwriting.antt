@@ -1,5 +1,5 @@
--- The cells on the way from a buffer through the stepping cores and back: the bytes that are stored are those of the registers reached, and
--- with all steps of P, of P or its inverse.
+-- The cells on the way from a buffer through the stepping cores and back: the bytes that are stored are those of the registers reached. After
+-- all steps of P they are P's, or its inverse's.
 use mathlib.Core.Bool.{Bool, true, false, cond}
 use mathlib.Core.List.{List, _++_}
 use mathlib.Core.Path.{_≡_, refl, sym, ap, ap₂, _∙_, subst}

@@ -1,8 +1,9 @@
--- The order of the lines of a call on a buffer, their edges, and single steps, by computation. Where several lines hold, the number is the
--- first's.
+-- The order of the lines of a call on a buffer, their edges, single steps, and stops, by computation. Where several lines hold, the number
+-- is the first's.
 use mathlib.Core.List.{List, [], _∷_}
 use mathlib.Core.Path.{_≡_, refl}
-use Prim.Native.Nat.{ℕ}
+use Prim.Native.Nat.{ℕ, zero, suc}
+use native.Mathlib.Omega.{arith}
 use lib.ListN.{replicate, set}
 use Rattle.refusals.specs.Lines.{firstLine, line5}
 use Rattle.refusals.specs.Outcome.{accepted, refused, outcome, valueOr}
@@ -15,7 +16,7 @@ use Rattle.permutation.specs.declared.Stepped.the-variants.{L, Refused}
 use Rattle.permutation.specs.Lines.{line1, line4, mostSteps, line20}
 use Rattle.permutation.specs.Permute.{permuteNumber, onBytes}
 use Rattle.permutation.specs.Steps.{bitsOfL, valueOfL, registersAfter, registersBefore, stepsNumber, steppedOutcome, stepsOutcome, stepsBackOutcome, stepsBytes}
-use Rattle.permutation.specs.NamedClocks.{Stop}
+use Rattle.permutation.specs.NamedClocks.{AreBytes, Stop}
 
 pub order :
     -- all of lines 1, 4 and 5 hold; lines 1 and 4; lines 1 and 5
@@ -99,13 +100,26 @@ pub steps-answers :
     × (stepsBackOutcome 1 8 1023 12 full ≡ refused 20 0) × (stepsBytes registersBefore 1 8 1023 12 full ≡ full)
     × (stepsBackOutcome 1 1 1023 1 full ≡ accepted tt)
     -- what an answer stands for
-    × (steppedOutcome (L 5) ≡ accepted 5) × (steppedOutcome (Refused (record { number = 20; place = 3 })) ≡ refused 20 3)
+    × (steppedOutcome (L 1029) ≡ accepted 1029) × (steppedOutcome (Refused (record { number = 20; place = 3 })) ≡ refused 20 3)
     -- what a lent number holds after a call
     × (_≡_ {A = ℕ} (valueOr (accepted 5) 7) 5) × (_≡_ {A = ℕ} (valueOr (refused 20 0) 7) 7)
 unfolding stepsOutcome stepsBackOutcome steppedOutcome valueOr stepsBytes outcome stepsNumber firstLine line1 line4 mostSteps line20 line5 isInstance isWidth stateBytes instanceOf rounds U
 steps-answers = (refl, refl, refl, refl, refl, refl, refl, refl, refl)
 
--- a stop, of which `NamedClocks.GoingOn` speaks: one step of U at width 1 and seven more are eight at width 8
-pub stop : Stop 1 1 1 8 1023 1 7 1022 zeros
+-- ---- what the statements of `NamedClocks` ask for can be met
+
+-- the greatest bytes
+pub greatest-bytes : (n : ℕ) → AreBytes (replicate n 255)
+greatest-bytes zero j = omega arith
+greatest-bytes (suc n) zero = omega arith
+greatest-bytes (suc n) (suc j) = greatest-bytes n j
+
+-- a stop: one step of U at width 1 from L0 alone, seven more, and eight at once at width 8
+pub stop : Stop 1 1 1 8 512 1 7 1 zeros
 unfolding stepsNumber firstLine line1 line4 mostSteps line20 line5 isInstance isWidth stateBytes instanceOf rounds U
-stop = record { stops = first-steps .0; width = refl; whole = refl; through = refl }
+stop = record { stops = first-steps .3; width = refl; whole = refl; through = refl }
+
+-- at three widths: eight steps of S at 8 from all ones, sixteen more at 16, and twenty-four at once at 1
+pub stop-at-three : Stop 3 8 16 1 1023 8 16 769 (replicate 32 0)
+unfolding stepsOutcome outcome registersAfter bitsOfL valueOfL tabulate bitsOf loaded shift stepL step steps p stepsNumber firstLine line1 line4 mostSteps line20 line5 isInstance isWidth stateBytes instanceOf rounds S
+stop-at-three = record { stops = refl; width = refl; whole = refl; through = refl }

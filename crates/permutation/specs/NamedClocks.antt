@@ -2,14 +2,15 @@
 -- proofs/NamedClocks.antt.
 use mathlib.Core.Bool.{true}
 use mathlib.Core.List.{List}
+use mathlib.Core.Logic.{_↔_}
 use mathlib.Core.Path.{_≡_}
-use Prim.Native.Nat.{ℕ, _+_, _/_, _%_, _<_}
+use Prim.Native.Nat.{ℕ, _+_, _/_, _%_, _<_, _≤_}
 use lib.ListN.{length, getD}
 use Rattle.refusals.specs.Outcome.{accepted, refused, numberOf}
 use Rattle.quark.specs.Bytes.{bitsOf}
-use Rattle.quark.specs.Step.{loaded, rounds, P}
+use Rattle.quark.specs.Step.{stepsL, loaded, rounds, P}
 use Rattle.quark.specs.Inverse.{undoP}
-use Rattle.quark.specs.Instance.{instanceOf, isWidth}
+use Rattle.quark.specs.Instance.{instanceOf, isInstance, isWidth, stateBytes}
 use Rattle.quark.specs.Together.{groups}
 use Rattle.permutation.specs.Permute.{permuteOutcome, overwritten}
 use Rattle.permutation.specs.Steps.{bitsOfL, registersAfter, registersBefore, stepsNumber, stepsOutcome, stepsBackOutcome, stepsBytes}
@@ -17,6 +18,21 @@ use Rattle.permutation.specs.Steps.{bitsOfL, registersAfter, registersBe
 -- every element is a byte
 abbrev pub AreBytes : List ℕ → Type 0
 AreBytes l = (j : ℕ) → getD l j 0 < 256
+
+-- ---- which calls are accepted
+
+-- what a call on a buffer of `size` bytes has to keep
+pub record LawfulCall (i w l count size : ℕ) : Type 0 where
+  pub instance : isInstance i ≡ true
+  pub width : isWidth i w ≡ true
+  pub start : l ≤ 1023
+  pub few : count ≤ rounds (instanceOf i .taps)
+  pub whole : count % w ≡ 0
+  pub length : size ≡ stateBytes i
+
+-- such calls, and no others
+unfoldable pub AcceptedExactly : Type 0
+AcceptedExactly = (i w l count size : ℕ) → (stepsNumber i w l count size ≡ 0) ↔ LawfulCall i w l count size
 
 -- ---- refused calls
 
@@ -44,7 +60,7 @@ pub record AllSteps (i w : ℕ) (bytes : List ℕ) : Type 0 where
 unfoldable pub AllOfP : Type 0
 AllOfP = (i w : ℕ) (bytes : List ℕ) → AllSteps i w bytes
 
--- no steps: an accepted call answers the start value and leaves the buffer
+-- no steps: accepted, `steps` answers the start value, and both calls leave the buffer
 unfoldable pub NoSteps : Type 0
 NoSteps =
     (i w l : ℕ) (bytes : List ℕ) → AreBytes bytes → stepsNumber i w l 0 (length bytes) ≡ 0
@@ -71,6 +87,13 @@ InGroups =
     (i w l count : ℕ) (bytes : List ℕ) → stepsNumber i w l count (length bytes) ≡ 0
     → registersAfter l count (instanceOf i .taps) (bitsOf (instanceOf i .b) bytes)
     ≡ groups (instanceOf i .taps) w (count / w) (loaded (instanceOf i .taps) (bitsOf (instanceOf i .b) bytes) (bitsOfL l))
+
+-- the registers from before the steps of an accepted call lead, in groups of its width, to its buffer and the L after the steps
+unfoldable pub BackInGroups : Type 0
+BackInGroups =
+    (i w l count : ℕ) (bytes : List ℕ) → stepsNumber i w l count (length bytes) ≡ 0
+    → groups (instanceOf i .taps) w (count / w) (registersBefore l count (instanceOf i .taps) (bitsOf (instanceOf i .b) bytes))
+    ≡ loaded (instanceOf i .taps) (bitsOf (instanceOf i .b) bytes) (stepsL count (bitsOfL l))
 
 -- ---- there and back
 
@@ -110,10 +133,12 @@ GoingOn = (i w w′ w″ l m n l′ : ℕ) (bytes : List ℕ) → Stop i w w′ 
 
 -- all of it
 pub record NamedClocks : Type 0 where
+  pub accepted-exactly : AcceptedExactly
   pub refused-leaves : RefusedLeaves
   pub all-of-P : AllOfP
   pub no-steps : NoSteps
   pub widths-agree : WidthsAgree
   pub in-groups : InGroups
+  pub back-in-groups : BackInGroups
   pub undo-each-other : UndoEachOther
   pub going-on : GoingOn

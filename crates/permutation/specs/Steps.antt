@@ -1,5 +1,5 @@
--- Steps of P up to a named clock, and back, on a lent buffer (document 02, 2.6): lines 1, 4, 20, 5 in this order; accepted, the buffer holds X,
--- then Y after the steps, or from before them; refused, it is untouched.
+-- Steps of P up to a named clock, and back, on a lent buffer (document 02, 2.6): lines 1, 4, 20, 5 in this order; accepted, the buffer holds X
+-- and then Y, after the steps or from before them; refused, it is untouched.
 use mathlib.Core.Bool.{cond}
 use mathlib.Core.List.{List, [], _∷_}
 use Prim.Native.Nat.{ℕ, _+_, _*_, _-_, _/_, _%_, _^_}
@@ -59,7 +59,7 @@ stepsOutcome i w l count bytes =
 unfoldable pub stepsBackOutcome : (i w l count : ℕ) → List ℕ → Outcome (Unit {0})
 stepsBackOutcome i w l count bytes = outcome (stepsNumber i w l count (length bytes)) tt
 
--- the buffer after a call: X, then Y of the registers to which it leads, those after the steps or those from before them
+-- the buffer after a call: X and then Y, of the registers to which it leads, those after the steps or those from before them
 unfoldable pub stepsBytes : (registers : (l count : ℕ) → Taps → List ℕ → Registers) → (i w l count : ℕ) → List ℕ → List ℕ
 stepsBytes registers i w l count bytes =
     cond (eqb (stepsNumber i w l count (length bytes)) 0) (onBytes (λ T s. stored (registers l count T s)) i bytes) bytes

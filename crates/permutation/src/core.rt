@@ -1,5 +1,5 @@
-// The stepping cores by step width. They take L before the steps, a number with bit i at weight 2 to the i, and a step count; P and its
-// inverse pass all ones and 4b. Assumes that every cell is 0 or 1.
+// A buffer through the stepping cores, by step width, and back. The cores take L before the steps, a number with bit i at weight 2 to the i,
+// and a step count; P and its inverse pass all ones and 4b. They assume that every cell is 0 or 1.
 ghost use mathlib.Core.Path.{_≡_};
 ghost use lib.ListN.{length};
 ghost use Rattle.refusals.specs.Outcome.{outcomeOf};
@@ -52,7 +52,7 @@ fn run_or_undo(
     serial::run(bits, instance, l, count)
 }
 
-// Overwrites the bits of an instance's state with X, then Y after `count` steps, or from before them. L begins at l before the first of them.
+// Overwrites the bits of an instance's state with those after `count` steps, or from before them. L begins at l before the first of them.
 // Returns L after the steps, or before them.
 pub fn overwrite(
     inverse: bool,

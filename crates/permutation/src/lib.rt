@@ -41,8 +41,8 @@ pub fn invert(instance: u32, width: u32, buffer: &mut [u8]) -> Answer
     core::permute_or_invert(true, instance, width, buffer)
 }
 
-// Overwrites the bits of an instance's state with X, then Y after `count` steps of P, `width` together, and answers L after them. L begins at
-// the value l; here and in the answer its bit 0 has weight 512.
+// Overwrites the bits of an instance's state with those after `count` steps of P, X and then Y, `width` steps together, and answers L after
+// them. L begins at the value l; here and in the answer its bit 0 has weight 512.
 // Refuses by lines 1, 4, 20 and 5, in this order; the buffer is then untouched.
 pub fn steps(instance: u32, width: u32, l: u32, count: u32, buffer: &mut [u8]) -> Stepped
     ensures answer { λ r. ⌜ steppedOutcome r ≡ stepsOutcome instance width l count (now (buffer .entry)) ⌝ }
@@ -57,8 +57,8 @@ pub fn steps(instance: u32, width: u32, l: u32, count: u32, buffer: &mut [u8]) -
     Stepped::L(register_l::mirrored(after))
 }
 
-// Overwrites the bits of an instance's state with X, then Y from before `count` steps of P, `width` undone together. L began at the value l
-// before these steps, with weight 512 for its bit 0.
+// Overwrites the bits of an instance's state with those from before `count` steps of P, X and then Y, `width` steps undone together. L began
+// at the value l before these steps, with weight 512 for its bit 0.
 // Refuses by lines 1, 4, 20 and 5, in this order; the buffer is then untouched.
 pub fn steps_back(instance: u32, width: u32, l: u32, count: u32, buffer: &mut [u8]) -> Answer
     ensures answer { λ r. ⌜ outcomeOf r ≡ stepsBackOutcome instance width l count (now (buffer .entry)) ⌝ }

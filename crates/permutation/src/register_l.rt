@@ -36,7 +36,7 @@ pub fn run_l(l: u32, count: u32) -> u32
     now
 }
 
-// L with its weights in the other order: from bit i at 2 to the i to bit 0 at 512 and bit 9 at 1, and back.
+// L with its weights in the other order: bit i goes from weight 2 to the i to weight 2 to the (9 - i), or back.
 pub fn mirrored(l: u32) -> u32
     requires { ⌜ l < 1024 ⌝ }
     ensures { λ r. ⌜ r ≡ valueOfL (wordBits 10 l) ⌝ }

@@ -1,4 +1,4 @@
--- Groups of steps taken together (document 02, 2.6): for any lawful taps, any width w that, added to every tap, is at most the half, and any
+-- Groups of steps taken together (document 02, 2.6): for any lawful taps, any width w with every tap and w more within the half, and any
 -- number k of groups, k groups of w steps are k * w steps. So two such widths agree where they stop at one count, and stepping back undoes
 -- either.
 use mathlib.Core.Path.{_≡_, refl, sym, ap, _∙_}

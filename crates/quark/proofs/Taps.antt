@@ -6,7 +6,7 @@ use mathlib.Core.Path.{_≡_}
 use Prim.Native.Nat.{ℕ, zero, suc, _+_, _≤_, _<_}
 use native.Mathlib.Nat.{le-of-suc-le-suc, not-suc-le-zero}
 use native.Mathlib.Omega.{arith}
-use lib.Dec.{T, leb, ltb, eqb, leb→le, eqb→eq}
+use lib.Dec.{T, leb, ltb, eqb, leb→le, eqb→eq, lit≤}
 use lib.ListN.{length, getD, drop, set}
 use Rattle.quark.specs.Feedback.{Taps}
 use Rattle.quark.specs.Instance.{U, D, S}
@@ -161,7 +161,44 @@ pub lawful-S : Lawful (S .taps) × Reach (S .taps) 16
 unfolding S tests testAll above within
 lawful-S = tested (S .taps) 16 tt
 
--- the greatest widths for which the laws of several steps hold: the highest taps are 59, 79 and 111
-pub greatest-reach : Reach (U .taps) 9 × Reach (D .taps) 9 × Reach (S .taps) 17
+-- ---- the greatest widths for which the laws of several steps hold
+
+-- every tap, and w more, is within the half, and no more than w
+abbrev pub Greatest : Taps → ℕ → Type 0
+Greatest A w = Reach A w × (Reach A (suc w) → ⊥)
+
+-- w is too much for a12 of f
+too-wide : (A : Taps) (w : ℕ) → 12 < length (A .fTaps) → A .half < getD (A .fTaps) 12 0 + w → Reach A w → ⊥
+too-wide A w long past R =
+    let within : getD (A .fTaps) 12 0 + w ≤ A .half = all-at (λ t. t + w ≤ A .half) (A .fTaps) (R .f-within) 12 long in
+    omega (arith, past, within)
+
+-- the highest taps are 59, 79 and 111, each a12 of f
+pub greatest-reach : Greatest (U .taps) 9 × Greatest (D .taps) 9 × Greatest (S .taps) 17
 unfolding U D S tests testAll above within
-greatest-reach = (tested (U .taps) 9 tt .1, tested (D .taps) 9 tt .1, tested (S .taps) 17 tt .1)
+greatest-reach = (
+  (tested (U .taps) 9 tt .1, too-wide (U .taps) 10 (lit≤ tt) (lit≤ tt)),
+  (tested (D .taps) 9 tt .1, too-wide (D .taps) 10 (lit≤ tt) (lit≤ tt)),
+  (tested (S .taps) 17 tt .1, too-wide (S .taps) 18 (lit≤ tt) (lit≤ tt)),
+)
+
+-- ---- the laws are not about the three instances alone
+
+-- U's taps in halves of 1,000 bits
+unfoldable pub wide : Taps
+wide = record {
+  half = 1000;
+  fTaps = U .taps .fTaps;
+  gTaps = U .taps .gTaps;
+  hX = U .taps .hX;
+  hY = U .taps .hY;
+  yLow = U .taps .yLow;
+  xLow = U .taps .xLow;
+  xMid = U .taps .xMid;
+  xHigh = U .taps .xHigh;
+  yHigh = U .taps .yHigh;
+}
+
+pub lawful-wide : Lawful wide × Reach wide 941
+unfolding wide U tests testAll above within
+lawful-wide = tested wide 941 tt

@@ -5,7 +5,7 @@ ghost use Rattle.permutation.specs.Steps.{registersAfter, registersBefore, step
 use permutation::Stepped;
 use refusals::number_of;
 
-// Overwrites the bits of an instance's state with X, then Y after `count` steps of P from L's start value l, and writes L after them to
+// Overwrites the bits of an instance's state with those after `count` steps of P from L's start value l, and writes L after them to
 // `l_after`; in both numbers L's bit 0 has weight 512. 0; or the number of the first of lines 1, 4, 20 and 5 that holds, and both are
 // untouched.
 #[no_mangle]
@@ -31,8 +31,8 @@ pub extern "C" fn quark_steps(
     }
 }
 
-// Overwrites the bits of an instance's state with X, then Y from before `count` steps of P, where L began at the value l. 0; or the number of
-// the first of lines 1, 4, 20 and 5 that holds, and the state is untouched.
+// Overwrites the bits of an instance's state with those from before `count` steps of P, where L began at the value l. 0; or the number of the
+// first of lines 1, 4, 20 and 5 that holds, and the state is untouched.
 #[no_mangle]
 pub extern "C" fn quark_steps_back(
     instance: u32,
