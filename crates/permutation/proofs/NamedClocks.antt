@@ -188,11 +188,11 @@ accepted-exactly i w l count size = (
         instance = accepted-instance i w size of-P;
         width = accepted-width i w size of-P;
         start = omega (arith, range .start);
-        few = range .few;
+        few = omega (arith, range .few);
         whole = range .whole;
         length = accepted-state i w l count size none;
       },
-  λ call. none-steps (call .instance) (call .width) (record { start = omega (arith, call .start); few = call .few; whole = call .whole }) (call .length),
+  λ call. none-steps (call .instance) (call .width) (record { start = omega (arith, call .start); few = omega (arith, call .few); whole = call .whole }) (call .length),
 )
 
 refused-leaves : RefusedLeaves
