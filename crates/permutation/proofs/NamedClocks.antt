@@ -132,6 +132,9 @@ module _ (i : ℕ) (bytes : List ℕ) where
   halves : Wide (2 * T .half) s
   halves = subst (λ (b : ℕ). Wide b s) (regular i .two-halves) (wide-bitsOf (instanceOf i .b) bytes)
 
+  sized-bits : (L : List ℕ) → Wide 10 L → Sized T (loaded T s L)
+  sized-bits L = sized-loaded T (regular i .lawful) s L halves
+
   of-b : (q : List ℕ) → Wide (2 * T .half) q → Wide (instanceOf i .b) q
   of-b q = subst (λ (b : ℕ). Wide b q) (sym (regular i .two-halves))
 
@@ -243,15 +246,12 @@ module _ (i w l count : ℕ) (bytes : List ℕ) (none : stepsNumber i w l count 
   all-groups : count / w * w ≡ count
   all-groups = omega (arith, div-add-mod' count w, accepted-range i w l count (length bytes) none .whole)
 
-  call-sized : (L : List ℕ) → Wide 10 L → Sized (instanceOf i .taps) (loaded (instanceOf i .taps) (bitsOf (instanceOf i .b) bytes) L)
-  call-sized L wide = sized-loaded (instanceOf i .taps) (regular i .lawful) (bitsOf (instanceOf i .b) bytes) L (halves i bytes) wide
-
 in-groups : InGroups
 unfolding InGroups registersAfter
 in-groups i w l count bytes none =
     let T = instanceOf i .taps in
     let start = loaded T (bitsOf (instanceOf i .b) bytes) (bitsOfL l) in
-    let sized = call-sized i w l count bytes none (bitsOfL l) (wide-bitsOfL l) in
+    let sized = sized-bits i bytes (bitsOfL l) (wide-bitsOfL l) in
     sym (groups-steps T (regular i .lawful) w (call-reach i w l count bytes none) (count / w) start sized
     ∙ ap (λ (n : ℕ). steps T n start) (all-groups i w l count bytes none))
 
@@ -261,7 +261,7 @@ back-in-groups i w l count bytes none =
     let T = instanceOf i .taps in
     let L = stepsL count (bitsOfL l) in
     let end = loaded T (bitsOf (instanceOf i .b) bytes) L in
-    let sized = call-sized i w l count bytes none L (wide-stepsL count (bitsOfL l) (wide-bitsOfL l)) in
+    let sized = sized-bits i bytes L (wide-stepsL count (bitsOfL l) (wide-bitsOfL l)) in
     ap (λ (n : ℕ). groups T w (count / w) (undoSteps T n end)) (sym (all-groups i w l count bytes none))
     ∙ redo-groups T (regular i .lawful) w (call-reach i w l count bytes none) (count / w) end sized
 
