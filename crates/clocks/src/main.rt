@@ -2,6 +2,8 @@
 // at every 8th clock up to 4b, the step count, L's ten bits, bit 0 first, and the state. Each line is a call of `steps` from that state, and
 // `steps_back` leads back to it. What must be written, in `stdout`, comes from hosts/rust/reference; the last state of each table is Appendix
 // B's second.
+#![tactic(auto)]
+
 ghost use Rattle.std.specs.Prelude.{◌<◌, ◌≤◌};
 
 use libc::STDOUT_FILENO;

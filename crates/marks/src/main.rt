@@ -1,6 +1,8 @@
 // Marks in a lent buffer (document 02, 2.5): a preamble with three endings, marks of closed states, lengths and counts, forged states and
 // forged marks. What must be written, in `stdout`, is from the implementation in hosts/rust/reference, which shares no code with this
 // project's.
+#![tactic(auto)]
+
 mod calls;
 mod counts;
 mod endings;

@@ -1,5 +1,7 @@
 // The permutation P and its inverse on a lent buffer, at every step width (document 01, "Steps, permutation and inverse"; QUARK 3.2), and
 // steps of P up to a named clock, and back (document 02, 2.6). Widths 1 and 8 are every instance's, 16 is S's; all give the same bits.
+#![tactic(auto)]
+
 ghost use Rattle.core.specs.Prelude.{◌≡◌};
 ghost use Rattle.refusals.specs.Outcome.{outcome_of};
 ghost use Rattle.quark.specs.Step.{P};
@@ -18,7 +20,7 @@ mod several;
 mod taps;
 
 // The answer of `steps`: L after the steps, bit 0 with weight 512, or why the call was refused.
-#[derive(Drop)]
+#[derive(Clone, Copy)]
 pub enum Stepped {
     L(u32),
     Refused(Refusal),

@@ -127,7 +127,7 @@ fn h_at(x: &[u8], y: &[u8], l: u32, instance: u32) -> u8
 }
 
 // The bits of f, g and h.
-#[derive(Drop)]
+#[derive(Clone, Copy)]
 struct FeedbackBits {
     f: u8,
     g: u8,

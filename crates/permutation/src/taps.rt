@@ -45,7 +45,7 @@ pub fn g_taps(instance: u32) -> [usize; 13]
 }
 
 // Taps whose bits h adds by themselves: the first `count` of an array.
-#[derive(Drop)]
+#[derive(Clone, Copy)]
 pub struct Linear {
     pub taps: [usize; 7],
     pub count: usize,
@@ -96,7 +96,7 @@ pub fn h_y_taps(instance: u32) -> Linear
 }
 
 // The five taps of h's products: Y3, X25, X46, X55 and Y59 in U.
-#[derive(Drop)]
+#[derive(Clone, Copy)]
 pub struct ProductTaps {
     pub y_low: usize,
     pub x_low: usize,

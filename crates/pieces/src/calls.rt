@@ -4,7 +4,7 @@ use refusals::number_of;
 use sponge::{Reply, State};
 
 // The calls so far.
-#[derive(Drop)]
+#[derive(Clone, Copy)]
 pub struct Calls {
     // the number of the latest answer
     pub number: u32,

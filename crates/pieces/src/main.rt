@@ -1,5 +1,7 @@
 // Messages cut into pieces, blocks of their closed states, the limits, and forged states (document 01, "Pieces and finish"; document 02,
 // 2.1). What must be written, in `stdout`, is from the implementation in hosts/rust/reference, which shares no code with this project's.
+#![tactic(auto)]
+
 mod blocks;
 mod calls;
 mod compare;

@@ -1,6 +1,8 @@
 // Hashing by pieces of bits (document 01, "Pieces and finish"; QUARK 3.1): a fresh state, pieces, finish, more blocks (document 02, 2.1), marks
 // to come back to (document 02, 2.5), and the whole digest.
 // A state is passed by value and, but for `mark`, one comes back beside the answer. All tests of a call precede all of its work.
+#![tactic(auto)]
+
 ghost use Rattle.std.specs.Prelude.{◌≡◌, length};
 ghost use Rattle.refusals.specs.Outcome.{outcome_of};
 ghost use Rattle.sponge.specs.Outcomes.{result_of, init_result, absorb_result, finish_result, finish_bytes, squeeze_result, squeeze_bytes, marked_outcome, mark_outcome, mark_bytes, recall_result, digest_outcome, digest_bytes};
@@ -18,7 +20,7 @@ mod replies;
 mod sound;
 
 // A state of the sponge (document 01, "Pieces and finish"). Its fields are public: a forged state is an input like any other.
-#[derive(Drop)]
+#[derive(Clone, Copy)]
 pub struct State {
     // 1 is U, 2 is D, 3 is S
     pub instance: u32,
@@ -35,14 +37,14 @@ pub struct State {
 }
 
 // A call's answer, and the state that it hands back.
-#[derive(Drop)]
+#[derive(Clone, Copy)]
 pub struct Reply {
     pub answer: Answer,
     pub state: State,
 }
 
 // What `mark` answers: how many marks are in use after it, or why it was refused.
-#[derive(Drop)]
+#[derive(Clone, Copy)]
 pub enum Marked {
     Count(usize),
     Refused(Refusal),

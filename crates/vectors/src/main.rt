@@ -2,6 +2,8 @@
 // added, the states that runs of the permutation make of it, as many as the paper lists, the first state again after as many inverses,
 // and the digest of the empty message. Then L after 10 and 1,023 steps (document 01, "Sample values"). What must be written, in `stdout`,
 // is typed from those documents.
+#![tactic(auto)]
+
 ghost use Rattle.std.specs.Prelude.{◌<◌};
 
 use libc::STDOUT_FILENO;

@@ -20,7 +20,7 @@ use crate::strides::eight_steps_of_l_back;
 use crate::{Register, RegisterWords};
 
 // By how much the products of g, and h, change with the bit at their low tap in Y: bit k of a word is the bit of step k.
-#[derive(Drop)]
+#[derive(Clone, Copy)]
 pub struct Derivatives {
     pub g: u64,
     pub h: u64,
@@ -28,7 +28,7 @@ pub struct Derivatives {
 
 // The low taps: those that can read bits which are to be found. h adds the bits at X1, at the tap x in X and at the tap y in Y by
 // themselves, and has the bit at the tap h in Y in products; g has the tap g in Y.
-#[derive(Drop)]
+#[derive(Clone, Copy)]
 pub struct LowTaps {
     pub x: u32,
     pub y: u32,

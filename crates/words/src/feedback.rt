@@ -14,7 +14,7 @@ use crate::masks::Masks;
 use crate::registers::{down, up, window};
 
 // Bits of X and of Y, or of f and of g, for the steps of a group: bit k of a word is the bit of step k.
-#[derive(Drop)]
+#[derive(Clone, Copy)]
 pub struct StepBits {
     pub x: u64,
     pub y: u64,

@@ -1,5 +1,7 @@
 // Several steps together on registers that are words (document 01, "Steps, permutation and inverse"): groups of 8 steps for every instance,
 // and of 16 for S. The operations are total: a call that does not fit hands its state back.
+#![tactic(auto)]
+
 ghost use Rattle.std.specs.Prelude.{cond, ◌≡◌};
 ghost use Rattle.quark.specs.Instance.{instance_of};
 ghost use Rattle.words.specs.Words.{words_after, words_before, fits};
@@ -14,14 +16,14 @@ mod registers;
 mod strides;
 
 // X or Y as the number hi * 2 ^ 64 + lo, with bit i at weight 2 ^ i; or a mask over it.
-#[derive(Drop)]
+#[derive(Clone, Copy)]
 pub struct Register {
     pub hi: u64,
     pub lo: u64,
 }
 
 // X, Y and L; L is a number below 1024 with bit i at weight 2 ^ i.
-#[derive(Drop)]
+#[derive(Clone, Copy)]
 pub struct RegisterWords {
     pub x: Register,
     pub y: Register,

@@ -6,7 +6,7 @@ ghost use Rattle.words.specs.leaf.FeedbackWords.{Masking, OneWord};
 use crate::Register;
 
 // A mask over X for f, and a mask over Y for g.
-#[derive(Drop)]
+#[derive(Clone, Copy)]
 pub struct Masks {
     pub f: Register,
     pub g: Register,
