@@ -1,0 +1,16 @@
+-- `words::back::derivatives_s` meets its contract.
+use lib.Dec.{lit<}
+use Rattle.quark.specs.Feedback.{exchange}
+use Rattle.quark.specs.Instance.{S}
+use Rattle.words.specs.leaf.Solving.{products_derivative_at}
+use Rattle.words.proofs.back.derivatives_s.Goals as goal
+
+pub returns : goal.returns
+unfolding S exchange products_derivative_at
+returns c k b = record { of_G = c.products_derivative.ensures k b; of_H = c.mixed_derivative.ensures k b }
+
+pub products_derivative-requires : goal.products_derivative-requires
+products_derivative-requires c = (lit< tt, lit< tt, lit< tt, lit< tt, lit< tt, lit< tt)
+
+pub mixed_derivative-requires : goal.mixed_derivative-requires
+mixed_derivative-requires c = (lit< tt, lit< tt, lit< tt, lit< tt)
