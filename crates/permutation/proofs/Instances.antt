@@ -1,5 +1,5 @@
 -- The taps that the serial form reads: all below the half.
-use Rattle.core.specs.Prelude.{ℕ, ◌+◌, ◌<◌, ◌≤◌, [], ◌∷◌, length, get_or}
+use Rattle.std.specs.Prelude.{ℕ, ◌+◌, ◌<◌, ◌≤◌, [], ◌∷◌, length, get_or}
 use native.Mathlib.Omega.{arith}
 use Rattle.quark.specs.Feedback.{Taps, exchange}
 use Rattle.quark.specs.Instance.{U, D, S, instance_of}

@@ -1,6 +1,6 @@
 -- The cells on the way from a buffer through the stepping cores and back: the bytes that are stored are those of the registers reached. After
 -- all steps of P they are P's, or its inverse's.
-use Rattle.core.specs.Prelude.{◌≡◌, ℕ, ◌-◌, ◌*◌, ◌≤◌, Bool, true, false, cond, List, ◌++◌, length, take, drop, replicate}
+use Rattle.std.specs.Prelude.{◌≡◌, ℕ, ◌-◌, ◌*◌, ◌≤◌, Bool, true, false, cond, List, ◌++◌, length, take, drop, replicate}
 use mathlib.Core.Path.{refl, sym, ap, ap₂, ◌∙◌, subst}
 use native.Mathlib.Omega.{arith}
 use lib.ListN.{length-append, length-replicate, take-append-drop}

@@ -1,6 +1,6 @@
 -- The order of the lines of a call on a buffer, their edges, single steps, and stops, by computation. Where several lines hold, the number
 -- is the first's.
-use Rattle.core.specs.Prelude.{◌≡◌, ℕ, zero, suc, List, [], ◌∷◌, set, replicate}
+use Rattle.std.specs.Prelude.{◌≡◌, ℕ, zero, suc, List, [], ◌∷◌, set, replicate}
 use mathlib.Core.Path.{refl}
 use native.Mathlib.Omega.{arith}
 use Rattle.refusals.specs.Lines.{first_line, line5}

@@ -1,5 +1,5 @@
 -- The widths that the word form takes, and the sizes of the instances.
-use Rattle.core.specs.Prelude.{◌≡◌, ℕ, ◌%◌, ◌≤◌, true}
+use Rattle.std.specs.Prelude.{◌≡◌, ℕ, ◌%◌, ◌≤◌, true}
 use mathlib.Core.Logic.{⊎_elim}
 use mathlib.Core.Path.{refl, ap, ap₂, ◌∙◌}
 use native.Mathlib.Decide.{ℕ_discrete}

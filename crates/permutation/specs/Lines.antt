@@ -1,6 +1,6 @@
 -- The lines that read an instance's number, a step width, a start value of L and a step count (docs/RULES.md). Each is defined for every
 -- number: line 4 refuses a width of 0, and in line 20 only 0 counts as its multiple.
-use Rattle.core.specs.Prelude.{ℕ, ◌%◌, Bool, not, ◌||◌, ◌==◌, nat_lt}
+use Rattle.std.specs.Prelude.{ℕ, ◌%◌, Bool, not, ◌||◌, ◌==◌, nat_lt}
 use Rattle.quark.specs.Step.{rounds}
 use Rattle.quark.specs.Instance.{instance_of, is_instance, is_width}
 

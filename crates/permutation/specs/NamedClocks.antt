@@ -1,6 +1,6 @@
 -- Stopping at a named clock (document 02, 2.6): the statements about `steps` and `steps_back` beside their contracts. Their proofs are in
 -- proofs/NamedClocks.antt.
-use Rattle.core.specs.Prelude.{◌≡◌, ℕ, ◌+◌, ◌/◌, ◌%◌, ◌<◌, ◌≤◌, true, ◌↔◌, List, length, ◌≢◌, slice_index}
+use Rattle.std.specs.Prelude.{◌≡◌, ℕ, ◌+◌, ◌/◌, ◌%◌, ◌<◌, ◌≤◌, true, ◌↔◌, List, length, ◌≢◌, slice_index}
 use Rattle.refusals.specs.Outcome.{accepted, refused, number_of}
 use Rattle.quark.specs.Bytes.{bits_of}
 use Rattle.quark.specs.Step.{steps_L, loaded, rounds, P}

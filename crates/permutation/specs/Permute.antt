@@ -1,6 +1,6 @@
 -- The permutation and its inverse on a lent buffer (document 01, "Steps, permutation and inverse"): lines 1, 4, 5 in this order; accepted,
 -- the buffer is overwritten by P, or P's inverse, of its bits; refused, it is untouched.
-use Rattle.core.specs.Prelude.{ℕ, cond, List, [], ◌∷◌, length, ◌==◌}
+use Rattle.std.specs.Prelude.{ℕ, cond, List, [], ◌∷◌, length, ◌==◌}
 use Rattle.refusals.specs.Lines.{first_line, line5}
 use Rattle.refusals.specs.Outcome.{Outcome, outcome}
 use Rattle.quark.specs.Bytes.{bits_of, bytes_of}

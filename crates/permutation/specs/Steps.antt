@@ -1,6 +1,6 @@
 -- Steps of P up to a named clock, and back, on a lent buffer (document 02, 2.6): lines 1, 4, 20, 5 in this order; accepted, the buffer holds X
 -- and then Y, after the steps or from before them; refused, it is untouched.
-use Rattle.core.specs.Prelude.{ℕ, ◌+◌, ◌-◌, ◌*◌, ◌/◌, ◌%◌, ◌^◌, cond, List, [], ◌∷◌, length, ◌==◌}
+use Rattle.std.specs.Prelude.{ℕ, ◌+◌, ◌-◌, ◌*◌, ◌/◌, ◌%◌, ◌^◌, cond, List, [], ◌∷◌, length, ◌==◌}
 use Rattle.refusals.specs.Lines.{first_line, line5}
 use Rattle.refusals.specs.Outcome.{Outcome, accepted, refused, outcome}
 use Rattle.quark.specs.Bytes.{bit, tabulate, bits_of}

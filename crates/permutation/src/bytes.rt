@@ -1,6 +1,6 @@
 // The byte form and single bits (document 01, "Steps, permutation and inverse"): bit i of a state is in byte i div 8 with weight 2 to the
 // (7 - i mod 8). A buffer has as many bytes as b / 8, at most 32; its bits go into the first b of 256 cells.
-ghost use Rattle.core.specs.Prelude.{◌≡◌, ◌-◌, ◌*◌, ◌<◌, ◌≤◌, ◌++◌, length, replicate};
+ghost use Rattle.std.specs.Prelude.{◌≡◌, ◌-◌, ◌*◌, ◌<◌, ◌≤◌, ◌++◌, length, replicate};
 ghost use Rattle.quark.specs.Bytes.{bits_of, byte_at, bytes_of};
 ghost use Rattle.permutation.specs.leaf.Core.{Cells};
 

@@ -2,7 +2,7 @@
 // steps of P up to a named clock, and back (document 02, 2.6). Widths 1 and 8 are every instance's, 16 is S's; all give the same bits.
 #![tactic(auto)]
 
-ghost use Rattle.core.specs.Prelude.{◌≡◌};
+ghost use Rattle.std.specs.Prelude.{◌≡◌};
 ghost use Rattle.refusals.specs.Outcome.{outcome_of};
 ghost use Rattle.quark.specs.Step.{P};
 ghost use Rattle.quark.specs.Inverse.{undo_P};
@@ -11,8 +11,8 @@ ghost use Rattle.permutation.specs.Steps.{registers_after, registers_before, ste
 
 use refusals::{Answer, Refusal};
 
+mod buffer;
 mod bytes;
-mod core;
 pub mod lines;
 mod register_l;
 mod serial;
@@ -32,7 +32,7 @@ pub fn permute(instance: u32, width: u32, buffer: &mut [u8]) -> Answer
     ensures answer { outcome_of result ≡ permute_outcome instance width buffer.old }
     ensures bytes { buffer.new ≡ overwritten P instance width buffer.old }
 {
-    core::permute_or_invert(false, instance, width, buffer)
+    buffer::permute_or_invert(false, instance, width, buffer)
 }
 
 // Overwrites the bits of an instance's state with P's inverse of them, `width` steps undone together.
@@ -41,7 +41,7 @@ pub fn invert(instance: u32, width: u32, buffer: &mut [u8]) -> Answer
     ensures answer { outcome_of result ≡ permute_outcome instance width buffer.old }
     ensures bytes { buffer.new ≡ overwritten undo_P instance width buffer.old }
 {
-    core::permute_or_invert(true, instance, width, buffer)
+    buffer::permute_or_invert(true, instance, width, buffer)
 }
 
 // Overwrites the bits of an instance's state with those after `count` steps of P, X and then Y, `width` steps together, and answers L after
@@ -56,7 +56,7 @@ pub fn steps(instance: u32, width: u32, l: u32, count: u32, buffer: &mut [u8]) -
         return Stepped::Refused(Refusal { number, place: 0 });
     }
     let start = register_l::mirrored(l);
-    let after = core::overwrite(false, instance, width, start, count, buffer);
+    let after = buffer::overwrite(false, instance, width, start, count, buffer);
     Stepped::L(register_l::mirrored(after))
 }
 
@@ -72,6 +72,6 @@ pub fn steps_back(instance: u32, width: u32, l: u32, count: u32, buffer: &mut [u
         return Answer::Refused(Refusal { number, place: 0 });
     }
     let start = register_l::mirrored(l);
-    core::overwrite(true, instance, width, start, count, buffer);
+    buffer::overwrite(true, instance, width, start, count, buffer);
     Answer::Accepted
 }

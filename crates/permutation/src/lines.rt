@@ -1,11 +1,11 @@
 // The lines by which a call on a state's buffer is refused, and their numbers (docs/RULES.md).
-ghost use Rattle.core.specs.Prelude.{◌≡◌};
+ghost use Rattle.std.specs.Prelude.{◌≡◌};
 ghost use Rattle.quark.specs.Instance.{state_bytes};
 ghost use Rattle.permutation.specs.Lines.{line20};
 ghost use Rattle.permutation.specs.Permute.{permute_number};
 ghost use Rattle.permutation.specs.Steps.{steps_number};
 
-use crate::core::rounds;
+use crate::buffer::rounds;
 use refusals::lines::{WRONG_LENGTH, first};
 pub use words::instances::{is_instance, is_width};
 

@@ -1,5 +1,5 @@
 // The register L as a number below 1024 with bit i at weight 2 to the i (QUARK 3.2; document 01, "Steps, permutation and inverse").
-ghost use Rattle.core.specs.Prelude.{◌≡◌, ◌<◌};
+ghost use Rattle.std.specs.Prelude.{◌≡◌, ◌<◌};
 ghost use Rattle.quark.specs.Step.{step_L, steps_L};
 ghost use Rattle.quark.specs.Inverse.{undo_step_L};
 ghost use Rattle.quark.specs.Word.{word_bits};

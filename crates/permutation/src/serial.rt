@@ -2,7 +2,7 @@
 // Of 256 cells the first half hold X and the next half Y; the rest is not touched. A step moves the cells of X and Y down by one and
 // puts the two new bits at their ends, and undoing it moves them up. L is a number below 1024 with bit i at weight 2 to the i.
 // Assumes that every cell is 0 or 1.
-ghost use Rattle.core.specs.Prelude.{◌≡◌, ℕ, ◌+◌, ◌-◌, ◌%◌, ◌<◌, ◌≤◌, true, false, ◌++◌, length, take, drop, slice_index, slice_range};
+ghost use Rattle.std.specs.Prelude.{◌≡◌, ℕ, ◌+◌, ◌-◌, ◌%◌, ◌<◌, ◌≤◌, true, false, ◌++◌, length, take, drop, slice_index, slice_range};
 ghost use Rattle.quark.specs.Bytes.{bit, tabulate};
 ghost use Rattle.quark.specs.Feedback.{feedback, sum_at, f, g, h};
 ghost use Rattle.quark.specs.Step.{step};

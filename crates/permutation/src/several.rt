@@ -1,6 +1,6 @@
 // Several steps together on the 256 cells of single bits (document 01, "Steps, permutation and inverse"): X and Y are taken from them as
 // words, stepped by the crate `words`, and put back. A half is 68, 88 or 128 bits, so that lo is always full.
-ghost use Rattle.core.specs.Prelude.{◌≡◌, ◌+◌, ◌%◌, ◌^◌, ◌<◌, ◌≤◌, length, take, drop, if◌then◌else◌, ◌≢◌};
+ghost use Rattle.std.specs.Prelude.{◌≡◌, ◌+◌, ◌%◌, ◌^◌, ◌<◌, ◌≤◌, length, take, drop, if◌then◌else◌, ◌≢◌};
 ghost use Rattle.quark.specs.Instance.{instance_of};
 ghost use Rattle.quark.specs.Word.{word_bits};
 ghost use Rattle.words.specs.Words.{value, fits};

@@ -1,6 +1,6 @@
 // The taps of the three instances, as the serial form reads them (document 01, "Taps and feedback"; QUARK 3.3). For a number that is no
 // instance's the taps are S's; line 1 is tested before.
-ghost use Rattle.core.specs.Prelude.{◌≡◌, ◌<◌, ◌≤◌, take};
+ghost use Rattle.std.specs.Prelude.{◌≡◌, ◌<◌, ◌≤◌, take};
 ghost use Rattle.quark.specs.Feedback.{exchange};
 ghost use Rattle.quark.specs.Instance.{instance_of};
 ghost use Rattle.permutation.specs.leaf.Serial.{Products};

@@ -6,7 +6,6 @@ use native.Mathlib.Nat.{le_of_suc-le-suc, not-suc-le-zero, suc-ne-zero, suc_inj,
 use native.Mathlib.Omega.{arith}
 use lib.ListN.{length, get_or, set, take, drop, replicate, length-append, length-drop, length-replicate, take-append-drop}
 use lib.Seq.{ext_get_or, take_at, drop_at, length-take-le}
-use Rattle.quark.specs.Bytes.{bit}
 use Rattle.quark.specs.Sponge.{sum}
 use Rattle.quark.proofs.Bits.{Bits, none, more, parity_lt, bits-append, bits-take, bits-drop}
 

@@ -1,6 +1,6 @@
 -- What the stepping cores are given, and what they leave in the 256 cells of the serial form, of which the first b hold X, then Y. Only the
 -- contracts of private functions cite these forms. L is a number with bit i at weight 2 ^ i.
-use Rattle.core.specs.Prelude.{◌≡◌, ℕ, ◌%◌, ◌<◌, Bool, true, cond, List, length, take, drop, slice_index}
+use Rattle.std.specs.Prelude.{◌≡◌, ℕ, ◌%◌, ◌<◌, Bool, true, cond, List, length, take, drop, slice_index}
 use Rattle.quark.specs.Bytes.{bits_of}
 use Rattle.quark.specs.Feedback.{Taps}
 use Rattle.quark.specs.Step.{Registers, steps, steps_L, loaded, stored, P}

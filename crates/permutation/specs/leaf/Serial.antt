@@ -1,6 +1,6 @@
 -- The taps and the bits of f, g and h, as the functions of the serial form give them. Only the contracts of private functions cite these
 -- forms.
-use Rattle.core.specs.Prelude.{◌≡◌, ℕ, List, [], ◌∷◌}
+use Rattle.std.specs.Prelude.{◌≡◌, ℕ, List, [], ◌∷◌}
 use Rattle.quark.specs.Bytes.{bit}
 use Rattle.quark.specs.Feedback.{Taps, f, g, h}
 use Rattle.quark.specs.Step.{Registers}

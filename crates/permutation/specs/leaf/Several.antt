@@ -1,5 +1,5 @@
 -- The word form's registers, and the cells in which it leaves them. Only the contracts of private functions cite these forms.
-use Rattle.core.specs.Prelude.{ℕ, ◌+◌, Bool, cond, List, ◌++◌, take, drop}
+use Rattle.std.specs.Prelude.{ℕ, ◌+◌, Bool, cond, List, ◌++◌, take, drop}
 use Rattle.quark.specs.Feedback.{Taps}
 use Rattle.quark.specs.Word.{word_bits}
 use Rattle.words.specs.declared.RegisterWords.{RegisterWords}

@@ -1,6 +1,5 @@
 -- `number_of` meets its contract: each arm is the case of the answer that it takes.
 use mathlib.Core.Path.{sym, ap}
-use borrow.Author.Rules.{rules}
 use Rattle.refusals.specs.declared.Answer.{Answer}
 use Rattle.refusals.specs.Outcome.{outcome_of, number_of}
 use Rattle.refusals.proofs.number_of.Goals as goal
