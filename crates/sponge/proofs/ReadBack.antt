@@ -1,6 +1,6 @@
 -- Marks read back: after an accepted marking a return to its name gives the state, a return to another name is answered as before, and what
 -- an accepted return gives is sound. In a list: `BackToMark`.
-use mathlib.Core.Bool.{Bool, true, false, not, ◌&&◌, cond, and-eq-true_iff}
+use mathlib.Core.Bool.{Bool, true, false, ◌&&◌, cond, and-eq-true_iff}
 use mathlib.Core.List.{List, [], ◌∷◌}
 use mathlib.Core.Path.{◌≡◌, refl, sym, ap, ap₂, ◌∙◌}
 use Prim.Native.Nat.{ℕ, zero, suc, ◌+◌, ◌*◌, ◌-◌, ◌≤◌, ◌<◌}
@@ -8,13 +8,13 @@ use native.Mathlib.Decide.{ℕ_discrete}
 use native.Mathlib.Nat.{suc-ne-zero, le_refl, le_step}
 use native.Mathlib.Numerals.{add-one}
 use native.Mathlib.Omega.{arith}
-use borrow.Author.Tests.{ne_eqb, not-false, not-true}
+use borrow.Author.Tests.{ne_eqb, not-false}
 use lib.Dec.{eqb}
 use lib.ListN.{length}
 use Rattle.refusals.specs.Lines.{first_line}
 use Rattle.refusals.specs.Outcome.{accepted, outcome}
 use Rattle.refusals.proofs.FirstLine.{none_holds}
-use Rattle.refusals.proofs.Outcome.{refused-left, accepted-left}
+use Rattle.refusals.proofs.Outcome.{accepted-left}
 use Rattle.quark.specs.Instance.{is_instance}
 use Rattle.permutation.specs.Lines.{line1}
 use Rattle.sponge.specs.declared.State.{State}
@@ -22,7 +22,7 @@ use Rattle.sponge.specs.Bytes.{same}
 use Rattle.sponge.specs.Soundness.{sound}
 use Rattle.sponge.specs.Marks.{mark_size, mark_of, name_in, state_in, ends_in_zeros, mark_at, with_mark, up_to_latest, found}
 use Rattle.sponge.specs.Outcomes.{Result, result_by, line2, line2_mark, line17, line18, line19, mark_number, mark_bytes, recall_number, recall_result}
-use Rattle.sponge.specs.ReadBack.{Marking, SameState, OthersStay, FromSound, RecallSound, leaves_name, BackToMark, ReadBack}
+use Rattle.sponge.specs.ReadBack.{Marking, SameState, OthersStay, FromSound, RecallSound, BackToMark, ReadBack}
 use Rattle.sponge.proofs.Compared.{equal_same}
 use Rattle.sponge.proofs.BackToMark.{back-to_mark}
 use Rattle.sponge.proofs.MarkBytes.{latest_within}
