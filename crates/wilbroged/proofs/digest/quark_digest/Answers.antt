@@ -1,0 +1,17 @@
+-- `quark_digest` meets its contract: it is `digest`, with the number of its outcome.
+use mathlib.Core.Path.{ap, ◌∙◌}
+use Rattle.refusals.specs.Outcome.{number_of}
+use Rattle.wilbroged.proofs.digest.quark_digest.Goals as goal
+
+pub digest-requires : goal.digest-requires
+digest-requires c = tt
+
+pub number_of-requires : goal.number_of-requires
+number_of-requires c = tt
+
+pub returns : goal.returns
+returns c =
+    let call = c.digest in record {
+      number = c.number_of.ensures ∙ ap number_of call.ensures.answer;
+      bytes = call.ensures.bytes;
+    }
