@@ -14,8 +14,8 @@ use Rattle.sponge.proofs.absorb.Reads as reads
 use Rattle.sponge.proofs.absorb.Tie as tie
 
 -- past the test no line holds
-lines-passed : (c : lts.Else1 tie.the-claims reads.Pre reads.Post) → let a = c.args in AbsorbPassed a.state a.width (length a.bytes.now) a.count
-lines-passed c = absorb-passed _ _ _ _ (sym c.absorb_line-number.ensures ∙ c.if-number-ne0.false)
+lines_passed : (c : lts.Else1 tie.the-claims reads.Pre reads.Post) → let a = c.args in AbsorbPassed a.state a.width (length a.bytes.now) a.count
+lines_passed c = absorb-passed _ _ _ _ (sym c.absorb_line-number.ensures ∙ c.if-number-ne0.false)
 
 pub absorb_line-number-requires : goal.absorb_line-number-requires
 absorb_line-number-requires c = tt
@@ -28,7 +28,7 @@ unfolding absorb_result
 returns-then-number-ne0 c = c.refuse.ensures ∙ refused-result _ _ _ _ c.absorb_line-number.ensures c.if-number-ne0.true
 
 pub take_bits-requires : goal.take_bits-requires
-take_bits-requires c = let p = lines-passed c.before in (p.ready, p.within, p.room, p.state.runs-are)
+take_bits-requires c = let p = lines_passed c.before in (p.ready, p.within, p.room, p.state.runs-are)
 
 pub accept-requires : goal.accept-requires
 accept-requires c = tt
@@ -42,4 +42,4 @@ returns c =
     ∙ accepted-result _ _ _ _ (sym c.absorb_line-number.ensures ∙ c.if-number-ne0.false)
     (c.take_bits.ensures
     ∙ ap (λ (p : ℕ). state_with s.instance p (take_bits (instance_of s.instance) (content_of s) (bits_of a.count a.bytes.now)))
-    (lines-passed c.before.before.before).state.phase_is)
+    (lines_passed c.before.before.before).state.phase_is)

@@ -19,14 +19,14 @@ use Rattle.sponge.proofs.digest.Reads as reads
 use Rattle.sponge.proofs.digest.Tie as tie
 
 -- past the test no line holds
-lines-passed : (c : lts.Else1 tie.the-claims reads.Pre reads.Post tie.handed_clauses) → let a = c.args in
+lines_passed : (c : lts.Else1 tie.the-claims reads.Pre reads.Post tie.handed_clauses) → let a = c.args in
     DigestPassed a.instance a.width (length a.message.now) a.count (length a.buffer.now)
-lines-passed c = digest-passed _ _ _ _ _ (sym c.digest_line-number.ensures ∙ c.if-number-ne0.false)
+lines_passed c = digest-passed _ _ _ _ _ (sym c.digest_line-number.ensures ∙ c.if-number-ne0.false)
 
 -- the fresh state can take the message
 ready : (c : lts.After-fresh tie.the-claims reads.Pre reads.Post tie.handed_clauses) → Ready c.fresh.result c.args.width
 ready c =
-    let p = lines-passed c.before in
+    let p = lines_passed c.before in
     fresh-ready _ c.fresh.result c.fresh.ensures _ p.has_instance p.width
 
 pub returns-then-number-ne0 : goal.returns-then-number-ne0
@@ -39,7 +39,7 @@ returns-then-number-ne0 c =
 
 pub take_bits-state-requires : goal.take_bits-state-requires
 take_bits-state-requires c =
-    let p = lines-passed c.before.before in
+    let p = lines_passed c.before.before in
     let ef = c.fresh.ensures in
     (ready c.before, omega (arith, p.within), omega (arith, fresh-total _ _ ef, p.room), fresh-runs _ _ ef)
 
@@ -47,7 +47,7 @@ pub close-requires : goal.close-requires
 unfolding fresh state_with
 close-requires c =
     let a = c.args in
-    let p = lines-passed c.before.before.before.before in
+    let p = lines_passed c.before.before.before.before in
     let f = c.fresh.result in
     let t = c.take_bits-state.result in
     let ef = c.fresh.ensures in

@@ -10,8 +10,8 @@ use Rattle.sponge.proofs.finish.Reads as reads
 use Rattle.sponge.proofs.finish.Tie as tie
 
 -- past the test no line holds
-lines-passed : (c : lts.Else1 tie.the-claims reads.Pre reads.Post tie.handed_clauses) → let a = c.args in FinishPassed a.state a.width (length a.buffer.now)
-lines-passed c = finish-passed _ _ _ (sym c.finish_line-number.ensures ∙ c.if-number-ne0.false)
+lines_passed : (c : lts.Else1 tie.the-claims reads.Pre reads.Post tie.handed_clauses) → let a = c.args in FinishPassed a.state a.width (length a.buffer.now)
+lines_passed c = finish-passed _ _ _ (sym c.finish_line-number.ensures ∙ c.if-number-ne0.false)
 
 pub finish_line-number-requires : goal.finish_line-number-requires
 finish_line-number-requires c = tt
@@ -28,7 +28,7 @@ returns-then-number-ne0 c =
     }
 
 pub close-requires : goal.close-requires
-close-requires c = let p = lines-passed c.before in (p.ready, p.fits, p.state.total-within, p.state.runs-are)
+close-requires c = let p = lines_passed c.before in (p.ready, p.fits, p.state.total-within, p.state.runs-are)
 
 pub accept-requires : goal.accept-requires
 accept-requires c = tt

@@ -11,8 +11,8 @@ use Rattle.sponge.proofs.mark.Reads as reads
 use Rattle.sponge.proofs.mark.Tie as tie
 
 -- past the test no line holds
-lines-passed : (c : lts.Else1 tie.the-claims reads.Pre reads.Post tie.handed_clauses) → let a = c.args in MarkPassed a.state (length a.buffer.now) a.count
-lines-passed c = mark-passed _ _ _ (sym c.mark_line-number.ensures ∙ c.if-number-ne0.false)
+lines_passed : (c : lts.Else1 tie.the-claims reads.Pre reads.Post tie.handed_clauses) → let a = c.args in MarkPassed a.state (length a.buffer.now) a.count
+lines_passed c = mark-passed _ _ _ (sym c.mark_line-number.ensures ∙ c.if-number-ne0.false)
 
 pub returns-then-number-ne0 : goal.returns-then-number-ne0
 unfolding marked_outcome mark_outcome mark_bytes
@@ -23,10 +23,10 @@ returns-then-number-ne0 c =
     }
 
 pub write-requires : goal.write-requires
-write-requires c = let p = lines-passed c.before in (p.instance-small, p.phase_small, p.room)
+write-requires c = let p = lines_passed c.before in (p.instance-small, p.phase_small, p.room)
 
 pub overflow_add-result : goal.overflow_add-result
-overflow_add-result c = omega (arith, (lines-passed c.before.before.before.before.before).room)
+overflow_add-result c = omega (arith, (lines_passed c.before.before.before.before.before).room)
 
 pub returns : goal.returns
 unfolding marked_outcome mark_outcome mark_bytes

@@ -17,8 +17,8 @@ use Rattle.sponge.proofs.squeeze.Reads as reads
 use Rattle.sponge.proofs.squeeze.Tie as tie
 
 -- past the test no line holds
-lines-passed : (c : lts.Else1 tie.the-claims reads.Pre reads.Post tie.handed_clauses) → let a = c.args in SqueezePassed a.state a.width a.k (length a.buffer.now)
-lines-passed c = squeeze-passed _ _ _ _ (sym c.squeeze_line-number.ensures ∙ c.if-number-ne0.false)
+lines_passed : (c : lts.Else1 tie.the-claims reads.Pre reads.Post tie.handed_clauses) → let a = c.args in SqueezePassed a.state a.width a.k (length a.buffer.now)
+lines_passed c = squeeze-passed _ _ _ _ (sym c.squeeze_line-number.ensures ∙ c.if-number-ne0.false)
 
 pub returns-then-number-ne0 : goal.returns-then-number-ne0
 unfolding squeeze_result squeeze_bytes
@@ -31,7 +31,7 @@ returns-then-number-ne0 c =
 pub give_extra-requires : goal.give_extra-requires
 unfolding blocks_bytes
 give_extra-requires c =
-    let p = lines-passed c.before in
+    let p = lines_passed c.before in
     let s = c.args.state in (
       p.ready,
       p.fits,
@@ -56,6 +56,6 @@ returns c =
       reply = c.accept.ensures
           ∙ accepted-result _ _ _ _ none
           (done.left
-          ∙ ap (λ (p : ℕ). state_with s.instance p (extra_squeezed (instance_of s.instance) a.k (content_of s))) (lines-passed c.before.before.before.before.before.before).state.phase_is);
+          ∙ ap (λ (p : ℕ). state_with s.instance p (extra_squeezed (instance_of s.instance) a.k (content_of s))) (lines_passed c.before.before.before.before.before.before).state.phase_is);
       bytes = done.bytes ∙ accepted-left _ _ _ none;
     }

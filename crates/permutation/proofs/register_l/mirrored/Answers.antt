@@ -13,14 +13,14 @@ pub loop-i-init : goal.loop-i-init
 unfolding weighed
 loop-i-init c = (omega arith, sym (div-one _), refl)
 
-below-1024 : (l i : ℕ) → i ≤ 10 → weighed (word_bit l) i < 1024
-below-1024 l i h = weighed_fits (word_bit l) (word_bit-lt l) i 10 h
+below_1024 : (l i : ℕ) → i ≤ 10 → weighed (word_bit l) i < 1024
+below_1024 l i h = weighed_fits (word_bit l) (word_bit-lt l) i 10 h
 
 pub overflow_mul-value : goal.overflow_mul-value
-overflow_mul-value c = omega (arith, below-1024 c.args.l c.loop-i.i c.loop-i.invariant.0)
+overflow_mul-value c = omega (arith, below_1024 c.args.l c.loop-i.i c.loop-i.invariant.0)
 
 pub overflow_add-value : goal.overflow_add-value
-overflow_add-value c = omega (arith, below-1024 c.args.l c.loop-i.i c.loop-i.invariant.0)
+overflow_add-value c = omega (arith, below_1024 c.args.l c.loop-i.i c.loop-i.invariant.0)
 
 pub overflow_add-i : goal.overflow_add-i
 overflow_add-i c = omega arith

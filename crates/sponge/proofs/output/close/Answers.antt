@@ -24,10 +24,10 @@ use Rattle.sponge.proofs.output.close.Tie as tie
 padded : State → Content
 padded s = holding (content_of s) (added s 1)
 
-padded-state : (c : lts.After-add_bit tie.the-claims reads.Pre reads.Post tie.handed_clauses) → let s = c.args.state in let t = c.add_bit-padded.result in
+padded_state : (c : lts.After-add_bit tie.the-claims reads.Pre reads.Post tie.handed_clauses) → let s = c.args.state in let t = c.add_bit-padded.result in
     changed closed_phase t.total t.extra t ≡ state_with s.instance closed_phase (padded s)
 unfolding with_sponge state_with padded
-padded-state c = with_changed (λ t. closed_phase) (λ t. t.total) (λ t. t.extra) c.args.state c.add_bit-padded.result _ c.add_bit-padded.ensures
+padded_state c = with_changed (λ t. closed_phase) (λ t. t.total) (λ t. t.extra) c.args.state c.add_bit-padded.result _ c.add_bit-padded.ensures
 
 pub add_bit-padded-requires : goal.add_bit-padded-requires
 add_bit-padded-requires c = (c.requires.0.zero_past, omega arith)
@@ -38,7 +38,7 @@ give_blocks-requires c =
     let s = c.args.state in
     let e = c.add_bit-padded.ensures in
     let count = c.outputs.ensures in (
-      ready_content s.instance closed_phase (padded s) (wide_next s 1) _ (padded-state c.before.before) c.args.width c.requires.0.has_instance c.requires.0.width,
+      ready_content s.instance closed_phase (padded s) (wide_next s 1) _ (padded_state c.before.before) c.args.width c.requires.0.has_instance c.requires.0.width,
       c.requires.1
           ∙ sym (whole-output s.instance)
           ∙ sym (ap₂ (λ (k i : ℕ). k * ((instance_of i).r / 8)) count (ap (λ (t : State). t.instance) e)),
@@ -61,7 +61,7 @@ returns c =
     let I = instance_of i in
     let blocks = c.give_blocks.ensures in
     let outputs = c.outputs in
-    let p = padded-state c.before.before.before.before.before.before in record {
+    let p = padded_state c.before.before.before.before.before.before in record {
       left = blocks.left
           ∙ of_content i closed_phase (padded s) (wide_next s 1) _ p
           (λ j q h. state_with j q (holding h (squeezed (instance_of j) outputs.result h.sponge)))

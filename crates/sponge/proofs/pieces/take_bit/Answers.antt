@@ -18,10 +18,10 @@ use Rattle.sponge.proofs.pieces.take_bit.Reads as reads
 use Rattle.sponge.proofs.pieces.take_bit.Tie as tie
 
 -- the state once the bit is added and counted
-next-state : (c : lts.After-add_bit tie.the-claims reads.Pre reads.Post) → let s = c.args.state in let t = c.add_bit-next.result in
+next_state : (c : lts.After-add_bit tie.the-claims reads.Pre reads.Post) → let s = c.args.state in let t = c.add_bit-next.result in
     changed t.phase (t.total + 1) t.extra t ≡ state_with s.instance s.phase (counted s c.args.bit)
 unfolding with_sponge state_with content_of
-next-state c = with_changed (λ t. t.phase) (λ t. t.total + 1) (λ t. t.extra) c.args.state c.add_bit-next.result _ c.add_bit-next.ensures
+next_state c = with_changed (λ t. t.phase) (λ t. t.total + 1) (λ t. t.extra) c.args.state c.add_bit-next.result _ c.add_bit-next.ensures
 
 pub add_bit-next-requires : goal.add_bit-next-requires
 add_bit-next-requires c = (c.requires.0.zero_past, c.requires.1)
@@ -34,7 +34,7 @@ pub run_p-requires : goal.run_p-requires
 unfolding with_sponge state_with add_bit content_of
 run_p-requires c =
     let s = c.args.state in (
-      ready_content s.instance s.phase (counted s c.args.bit) (wide_next s c.args.bit) _ (next-state c.before.before.before.before) c.args.width c.requires.0.has_instance c.requires.0.width,
+      ready_content s.instance s.phase (counted s c.args.bit) (wide_next s c.args.bit) _ (next_state c.before.before.before.before) c.args.width c.requires.0.has_instance c.requires.0.width,
       omega (
         arith,
         ap (λ (t : State). t.runs) c.add_bit-next.ensures,
@@ -46,10 +46,10 @@ run_p-requires c =
 
 -- the code's test: the next index is that of the total 0, which is a multiple of 32 and so of r, exactly where the total after the bit is a
 -- multiple of r
-block-ends : (c : lts.After-bit_index2 tie.the-claims reads.Pre reads.Post) → let s = c.args.state in
+block_ends : (c : lts.After-bit_index2 tie.the-claims reads.Pre reads.Post) → let s = c.args.state in
     (c.bit_index.result ≡ c.bit_index-2.result) ↔ ((s.total + 1) % (instance_of s.instance).r ≡ 0)
 unfolding with_sponge state_with content_of
-block-ends c =
+block_ends c =
     let s = c.args.state in
     let I = instance_of s.instance in
     let next = c.bit_index.ensures ∙ ap (λ (t : State). bit_index I (t.total + 1)) c.add_bit-next.ensures in
@@ -60,9 +60,9 @@ pub returns-then-bit_index : goal.returns-then-bit_index
 returns-then-bit_index c =
     let a = c.args in
     c.run_p.ensures
-    ∙ take-bit_runs a.state a.bit _ (next-state c.before.before.before.before.before) ((block-ends c.before.before).0 c.if-bit_index.true)
+    ∙ take-bit_runs a.state a.bit _ (next_state c.before.before.before.before.before) ((block_ends c.before.before).0 c.if-bit_index.true)
 
 pub returns : goal.returns
 returns c =
     let a = c.args in
-    next-state c.before.before.before.before ∙ take-bit_waits a.state a.bit (λ z. c.if-bit_index.false ((block-ends c.before).1 z))
+    next_state c.before.before.before.before ∙ take-bit_waits a.state a.bit (λ z. c.if-bit_index.false ((block_ends c.before).1 z))

@@ -15,8 +15,8 @@ regroup a b c d e f =
     let same : a + b + c + (d + e + f) ≡ a + (b + c) + (d + (e + f)) = omega arith in
     ap (λ (n : ℕ). n % 2) same
 
-regroup-y : (a b c d : ℕ) → (a + b + c + d) % 2 ≡ (a + (b + c) + d) % 2
-regroup-y a b c d =
+regroup_y : (a b c d : ℕ) → (a + b + c + d) % 2 ≡ (a + (b + c) + d) % 2
+regroup_y a b c d =
     let same : a + b + c + d ≡ a + (b + c) + d = omega arith in
     ap (λ (n : ℕ). n % 2) same
 
@@ -40,7 +40,7 @@ returns c =
       bit_Y = λ k less.
           low_sum a.width c.low_bits-2.ensures less
           (same_bit _ _ (window_place (value a.y) a.kept k (omega arith) c.window.ensures) ⊞ itself p.y k ⊞ itself sums.y k ⊞ itself a.h k)
-          ∙ regroup-y (Y k) (word_bit p.y k) (word_bit sums.y k) (word_bit a.h k);
+          ∙ regroup_y (Y k) (word_bit p.y k) (word_bit sums.y k) (word_bit a.h k);
     }
 
 pub window-requires : goal.window-requires

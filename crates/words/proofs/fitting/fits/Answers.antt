@@ -22,13 +22,13 @@ width c = sym c.is_width.ensures ∙ not-false _ c.if-not-is_width.false-raw
 whole : (c : lts.Else4 tie.the-claims reads.Pre reads.Post) → let a = c.args in eqb (a.count % a.width) 0 ≡ true
 whole c = eq-eqb _ _ c.if-count-width-ne0.false
 
-x-half : (c : lts.Else5 tie.the-claims reads.Pre reads.Post) → let a = c.args in
+x_half : (c : lts.Else5 tie.the-claims reads.Pre reads.Post) → let a = c.args in
     ltb (value a.state.x) (2 ^ (instance_of a.instance).taps.half) ≡ true
-x-half c = sym c.is_half.ensures ∙ not-false _ c.if-not-is_half.false-raw
+x_half c = sym c.is_half.ensures ∙ not-false _ c.if-not-is_half.false-raw
 
-y-half : (c : lts.Else6 tie.the-claims reads.Pre reads.Post) → let a = c.args in
+y_half : (c : lts.Else6 tie.the-claims reads.Pre reads.Post) → let a = c.args in
     ltb (value a.state.y) (2 ^ (instance_of a.instance).taps.half) ≡ true
-y-half c = sym c.is_half-2.ensures ∙ not-false _ c.if-not-is_half-2.false-raw
+y_half c = sym c.is_half-2.ensures ∙ not-false _ c.if-not-is_half-2.false-raw
 
 pub returns-then-not-is_instance : goal.returns-then-not-is_instance
 unfolding fits
@@ -61,9 +61,9 @@ returns-then-not-is_half c =
 pub returns-then-not-is_half-2 : goal.returns-then-not-is_half-2
 unfolding fits
 returns-then-not-is_half-2 c =
-    simp (instance c.before.before.before.before.before.before.before.before.before.before, width c.before.before.before.before.before.before.before.before, ne_eqb _ _ c.if-width-eq1.false, whole c.before.before.before.before.before.before, x-half c.before.before.before, sym c.is_half-2.ensures ∙ not-true _ c.if-not-is_half-2.true-raw)
+    simp (instance c.before.before.before.before.before.before.before.before.before.before, width c.before.before.before.before.before.before.before.before, ne_eqb _ _ c.if-width-eq1.false, whole c.before.before.before.before.before.before, x_half c.before.before.before, sym c.is_half-2.ensures ∙ not-true _ c.if-not-is_half-2.true-raw)
 
 pub returns : goal.returns
 unfolding fits
 returns c =
-    simp (instance c.before.before.before.before.before.before.before.before.before.before.before, width c.before.before.before.before.before.before.before.before.before, ne_eqb _ _ c.if-width-eq1.false, whole c.before.before.before.before.before.before.before, x-half c.before.before.before.before, y-half c.before)
+    simp (instance c.before.before.before.before.before.before.before.before.before.before.before, width c.before.before.before.before.before.before.before.before.before, ne_eqb _ _ c.if-width-eq1.false, whole c.before.before.before.before.before.before.before, x_half c.before.before.before.before, y_half c.before)
