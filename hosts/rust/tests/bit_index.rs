@@ -7,11 +7,11 @@ const PIECES: &str = include_str!("../../../crates/sponge/src/pieces.rt");
 /// What is called to run P.
 const P: [&str; 2] = ["state_bytes", "permutation::permute"];
 
-/// A function's body, without comments.
+/// A function's body, without comments. It begins after the line that ends with its brace; those of its clauses are indented.
 fn body(function: &str, source: &str) -> String {
     let starts = [format!("fn {function}("), format!("pub fn {function}(")];
     let from = source.lines().skip_while(|line| !starts.iter().any(|start| line.starts_with(start)));
-    let lines = from.skip_while(|line| !line.ends_with('{')).skip(1).take_while(|line| *line != "}");
+    let lines = from.skip_while(|line| line.starts_with(' ') || !line.ends_with('{')).skip(1).take_while(|line| *line != "}");
     lines.map(|line| line.split("//").next().unwrap()).collect::<Vec<_>>().join("\n")
 }
 

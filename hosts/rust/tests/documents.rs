@@ -85,19 +85,19 @@ const JOURNAL: &str = "journal/specs/Journal";
 
 /// Lists of lines that definitions join: the name, and where it is defined. The lines of the succession are those of the rules in force.
 const LISTS: [(&str, &str, &str); 6] = [
-    ("frontLines", LINES, "frontLines"),
-    ("layoutLine", LINES, "layoutLine"),
-    ("successionLines", "records/specs/Record", "today"),
-    ("bodyLines", LINES, "bodyLines"),
-    ("sealLine", LINES, "sealLine"),
-    ("recordLines", LINES, "recordLines"),
+    ("front_lines", LINES, "front_lines"),
+    ("layout_line", LINES, "layout_line"),
+    ("succession_lines", "records/specs/Record", "today"),
+    ("body_lines", LINES, "body_lines"),
+    ("seal_line", LINES, "seal_line"),
+    ("record_lines", LINES, "record_lines"),
 ];
 
 /// The numbers in the lines of a definition, in their order: a line is `(.., NUMBER)`, and a list that is joined has its own. A number
 /// that stands several times in a row is given once.
 fn lines_of(module: &str, definition: &str) -> Vec<u32> {
     let source = text(&format!("crates/{module}.antt"));
-    let from = source.split_once(&format!("\nunfoldable pub {definition} ")).map(|(_, rest)| rest);
+    let from = ["unfoldable", "abbrev"].iter().find_map(|mark| Some(source.split_once(&format!("\n{mark} pub {definition} "))?.1));
     let body = from.and_then(|rest| rest.split_once('\n')?.1.split("\n\n").next());
     let body = body.unwrap_or_else(|| panic!("{module} has no {definition}"));
     // what stands left of the definition's own equals sign is its name and arguments
@@ -116,23 +116,23 @@ fn lines_of(module: &str, definition: &str) -> Vec<u32> {
 
 /// Each operation, with the order in which it tests its refusals by the definitions that its contract names.
 fn orders() -> Vec<(&'static str, Vec<u32>)> {
-    let next = lines_of("journal/specs/Next", "nextNumber");
+    let next = lines_of("journal/specs/Next", "next_number");
     vec![
-        ("permute", lines_of(PERMUTE, "permuteNumber")),
-        ("invert", lines_of(PERMUTE, "permuteNumber")),
-        ("steps", lines_of(STEPS, "stepsNumber")),
-        ("steps_back", lines_of(STEPS, "stepsNumber")),
-        ("init", lines_of(OUTCOMES, "initNumber")),
-        ("absorb", lines_of(OUTCOMES, "absorbNumber")),
-        ("finish", lines_of(OUTCOMES, "finishNumber")),
-        ("squeeze", lines_of(OUTCOMES, "squeezeNumber")),
-        ("mark", lines_of(OUTCOMES, "markNumber")),
-        ("recall", lines_of(OUTCOMES, "recallNumber")),
-        ("digest", lines_of(OUTCOMES, "digestNumber")),
-        ("seal", lines_of("records/specs/Sealing", "sealNumber")),
-        ("check", lines_of("records/specs/Check", "checkNumber")),
-        ("verify", [lines_of(JOURNAL, "verifyNumber"), lines_of(JOURNAL, "recordNumber")].concat()),
-        ("find", lines_of(JOURNAL, "findNumber")),
+        ("permute", lines_of(PERMUTE, "permute_number")),
+        ("invert", lines_of(PERMUTE, "permute_number")),
+        ("steps", lines_of(STEPS, "steps_number")),
+        ("steps_back", lines_of(STEPS, "steps_number")),
+        ("init", lines_of(OUTCOMES, "init_number")),
+        ("absorb", lines_of(OUTCOMES, "absorb_number")),
+        ("finish", lines_of(OUTCOMES, "finish_number")),
+        ("squeeze", lines_of(OUTCOMES, "squeeze_number")),
+        ("mark", lines_of(OUTCOMES, "mark_number")),
+        ("recall", lines_of(OUTCOMES, "recall_number")),
+        ("digest", lines_of(OUTCOMES, "digest_number")),
+        ("seal", lines_of("records/specs/Sealing", "seal_number")),
+        ("check", lines_of("records/specs/Check", "check_number")),
+        ("verify", [lines_of(JOURNAL, "verify_number"), lines_of(JOURNAL, "record_number")].concat()),
+        ("find", lines_of(JOURNAL, "find_number")),
         ("find_refusal", vec![]),
         ("Reader::next", next.clone()),
         ("next_at", next),

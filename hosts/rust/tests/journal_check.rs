@@ -1,5 +1,5 @@
-//! The check program, target/bin/journal_check, run on inputs that the independent implementation makes: key, then journal. What it prints
-//! is compared with the line that is written here and with the independent implementation's.
+//! The check program, crates/journal_check/out/journal_check, run on inputs that the independent implementation makes: key, then journal. What
+//! it prints is compared with the line that is written here and with the independent implementation's.
 //!
 //! That the program reads all of its input, and tells a failed read from the end, is proved nowhere: no contract of the kit says what a read
 //! reads. So these tests try both mistakes. A buffer one byte shorter would accept `one_byte_over`, and a failed read that is taken for the
@@ -16,8 +16,8 @@ use std::path::PathBuf;
 use std::process::{Command, Stdio};
 
 fn program() -> PathBuf {
-    let path = PathBuf::from(concat!(env!("CARGO_MANIFEST_DIR"), "/../../target/bin/journal_check"));
-    assert!(path.is_file(), "{} is missing: run `rt check journal_check` in the repository's root first", path.display());
+    let path = PathBuf::from(concat!(env!("CARGO_MANIFEST_DIR"), "/../../crates/journal_check/out/journal_check"));
+    assert!(path.is_file(), "{} is missing: run `rt run` in crates/journal_check first", path.display());
     path
 }
 
