@@ -2,9 +2,9 @@
  * Wilbroged for C and C++: QUARK's permutation and its inverse, whole or some of their steps, its digest, sealed records and the journal
  * check.
  *
- * Link target/staticlib/libwilbroged.a, which `rt staticlib wilbroged` writes; it is for Linux on x86-64, and of the C library it needs
- * memcpy and memmove. The functions are those of crates/wilbroged, each proved to meet its contract there for every input; its comment here
- * puts the contract into words. docs/RULES.md explains the rules and every refusal.
+ * Link crates/wilbroged/out/libwilbroged.a, which `rt lib` writes in crates/wilbroged; it is for Linux on x86-64-v2, and of the C library it
+ * needs memcpy and memmove. The functions are those of crates/wilbroged, each proved to meet its contract there for every input; its comment
+ * here puts the contract into words. docs/RULES.md explains the rules and every refusal.
  *
  * Answers (journal_refused_at apart). WILBROGED_ACCEPTED, or the number of the first refusal that holds, in the order that the function's
  * comment gives. A refused call writes nothing, so that its buffer, and the number that l_after points to, still hold what they held
