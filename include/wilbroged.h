@@ -3,8 +3,8 @@
  * check.
  *
  * Link crates/wilbroged/out/libwilbroged.a, which `rt lib` writes in crates/wilbroged; it is for Linux on x86-64-v2, and of the C library it
- * needs memcpy and memmove. The functions are those of crates/wilbroged, each proved to meet its contract there for every input; its comment
- * here puts the contract into words. docs/RULES.md explains the rules and every refusal.
+ * needs memcpy, memmove and memset. The functions are those of crates/wilbroged, each proved to meet its contract there for every input; its
+ * comment here puts the contract into words. docs/RULES.md explains the rules and every refusal.
  *
  * Answers (journal_refused_at apart). WILBROGED_ACCEPTED, or the number of the first refusal that holds, in the order that the function's
  * comment gives. A refused call writes nothing, so that its buffer, and the number that l_after points to, still hold what they held
