@@ -10,56 +10,47 @@ ghost use Rattle.std.specs.Prelude.{◌≡◌, ◌≤◌, ◌<◌, length};
 ghost use Rattle.journal.specs.Report.{most_read};
 
 use journal::MOST_READ;
-use libc::{STDERR_FILENO, STDIN_FILENO, STDOUT_FILENO};
+use std::io::Read;
 
 // How many bytes to report on where a read failed, which is said on standard error. Fewer than a key are refused by line 5. Else it is the
 // whole buffer, which line 16 refuses where the key is blank, and line 9 as over-long where it is not, so that a failed read is never
 // accepted.
-fn after_failed_read(done: usize) -> usize
+fn after_failed_read(rt: &impl Eprint, done: usize) -> usize
     ensures { (result ≤ most_read) × (done < 16 → result ≡ done) × (16 ≤ done → result ≡ most_read) }
 {
-    io::write_all(
-        STDERR_FILENO,
-        b"journal_check: reading standard input failed\n",
-    );
+    let _ = rt.eprintln("journal_check: reading standard input failed");
     if done < 16 { done } else { MOST_READ }
 }
 
 // Reads until the buffer is full, the input ends or a read fails, and says how many bytes to report on.
-fn read_input(buffer: &mut [u8]) -> usize
+fn read_input(rt: &(impl Input + Eprint), buffer: &mut [u8]) -> usize
     requires { length buffer.old ≡ most_read }
     ensures { result ≤ length buffer.old }
 {
+    let mut input = rt.reader();
     let mut done: usize = 0;
     while done < buffer.len() {
-        let got = libc::read(STDIN_FILENO, &mut buffer[done..]);
-        if got < 0 {
-            return after_failed_read(done);
+        match input.read(&mut buffer[done..]) {
+            Err(_) => return after_failed_read(rt, done),
+            Ok(0) => return done,
+            Ok(count) => done += count,
         }
-        let count = io::count(got, &buffer[done..]);
-        if count == 0 {
-            return done;
-        }
-        done += count;
     }
     done
 }
 
 // Prints a line.
-fn print(line: &[u8]) {
-    if !io::write_all(STDOUT_FILENO, line) {
-        io::write_all(
-            STDERR_FILENO,
-            b"journal_check: writing standard output failed\n",
-        );
+fn print(rt: &(impl Print + Eprint), line: &[u8]) {
+    if rt.write_all(line).is_err() {
+        let _ = rt.eprintln("journal_check: writing standard output failed");
     }
 }
 
-fn main() {
+fn main(rt: HostRuntime) {
     let mut buffer = [0u8; MOST_READ];
-    let size = read_input(&mut buffer);
+    let size = read_input(&rt, &mut buffer);
     let text = journal::report(&buffer[0..size]);
     let len = text.len;
     let bytes = text.bytes;
-    print(&bytes[0..len]);
+    print(&rt, &bytes[0..len]);
 }

@@ -4,6 +4,7 @@ ghost use Rattle.std.specs.Prelude.{◌<◌};
 use crate::calls::write_recall;
 use crate::states::{forged, mark_name};
 use crate::text::{write, write_number};
+use std::io;
 
 // Two marks of a name: an open state of U, and a closed one that gave out one extra block.
 fn two_marks() -> [u8; 128] {
@@ -24,42 +25,43 @@ fn with_bytes(marks: [u8; 128], at: usize, value: u8, last: u8) -> [u8; 128]
 }
 
 // A return from a closed state of S, where the second mark is forged.
-fn write_forged(at: usize, value: u8, last: u8)
+fn write_forged(rt: &impl Print, at: usize, value: u8, last: u8) -> io::Result<()>
     requires { at < 64 }
 {
     let marks = with_bytes(two_marks(), at, value, last);
-    write_number(b"byte ", at as u64);
-    write_number(b" is ", value as u64);
-    write_number(b", byte 63 is ", last as u64);
-    write(b"\n");
-    write_recall(forged(3, 1, 100, 11, 0), mark_name(), &marks, 2);
+    write_number(rt, b"byte ", at as u64)?;
+    write_number(rt, b" is ", value as u64)?;
+    write_number(rt, b", byte 63 is ", last as u64)?;
+    write(rt, b"\n")?;
+    write_recall(rt, forged(3, 1, 100, 11, 0), mark_name(), &marks, 2)?;
+    Ok(())
 }
 
 // Each field of a mark: name, instance, phase, total, runs, extra blocks, bits, the bytes after them, and the last two. The third row has the
 // byte that the mark had.
-pub fn write_fields() {
-    write_forged(0, 65, 0);
-    write_forged(15, 65, 0);
-    write_forged(16, 1, 0);
-    write_forged(16, 0, 0);
-    write_forged(16, 2, 0);
-    write_forged(16, 4, 0);
-    write_forged(16, 255, 1);
-    write_forged(17, 0, 0);
-    write_forged(17, 2, 0);
-    write_forged(17, 2, 128);
-    write_forged(18, 1, 0);
-    write_forged(21, 23, 0);
-    write_forged(21, 24, 0);
-    write_forged(22, 1, 0);
-    write_forged(25, 21, 0);
-    write_forged(26, 1, 0);
-    write_forged(29, 2, 0);
-    write_forged(46, 1, 0);
-    write_forged(47, 1, 0);
-    write_forged(61, 1, 0);
-    write_forged(62, 1, 0);
-    write_forged(62, 128, 128);
-    write_forged(63, 1, 1);
-    write_forged(63, 128, 128);
+pub fn write_fields(rt: &impl Print) -> io::Result<()> {
+    write_forged(rt, 0, 65, 0)?;
+    write_forged(rt, 15, 65, 0)?;
+    write_forged(rt, 16, 1, 0)?;
+    write_forged(rt, 16, 0, 0)?;
+    write_forged(rt, 16, 2, 0)?;
+    write_forged(rt, 16, 4, 0)?;
+    write_forged(rt, 16, 255, 1)?;
+    write_forged(rt, 17, 0, 0)?;
+    write_forged(rt, 17, 2, 0)?;
+    write_forged(rt, 17, 2, 128)?;
+    write_forged(rt, 18, 1, 0)?;
+    write_forged(rt, 21, 23, 0)?;
+    write_forged(rt, 21, 24, 0)?;
+    write_forged(rt, 22, 1, 0)?;
+    write_forged(rt, 25, 21, 0)?;
+    write_forged(rt, 26, 1, 0)?;
+    write_forged(rt, 29, 2, 0)?;
+    write_forged(rt, 46, 1, 0)?;
+    write_forged(rt, 47, 1, 0)?;
+    write_forged(rt, 61, 1, 0)?;
+    write_forged(rt, 62, 1, 0)?;
+    write_forged(rt, 62, 128, 128)?;
+    write_forged(rt, 63, 1, 1)?;
+    write_forged(rt, 63, 128, 128)
 }

@@ -10,17 +10,19 @@ mod forged;
 mod states;
 mod text;
 
+use std::io;
+
 // An instance, with a buffer for three marks, whose bytes are 165.
-fn write_instance(instance: u32) {
+fn write_instance(rt: &impl Print, instance: u32) -> io::Result<()> {
     let mut buffer: [u8; 192] = [165; 192];
-    endings::write_instance(instance, &mut buffer);
+    endings::write_instance(rt, instance, &mut buffer)
 }
 
-fn main() {
-    write_instance(1);
-    write_instance(2);
-    write_instance(3);
-    counts::write_lengths();
-    counts::write_states();
-    forged::write_fields();
+fn main(rt: HostRuntime) -> io::Result<()> {
+    write_instance(&rt, 1)?;
+    write_instance(&rt, 2)?;
+    write_instance(&rt, 3)?;
+    counts::write_lengths(&rt)?;
+    counts::write_states(&rt)?;
+    forged::write_fields(&rt)
 }

@@ -8,6 +8,7 @@ use crate::compare::same_outcome;
 use crate::message::part;
 use crate::text::{write, write_agreement, write_digest, write_number, write_state, write_whole};
 use crate::widths::{block_bytes, digest_bytes, width_at};
+use std::io;
 
 // The message in two pieces, with a piece of no bits between them and refused calls among them: an instance that is none (1), a wrong
 // width (4), more bits than there are (6), a short buffer (5), a squeeze before the message is closed (3), and a piece and a finish once
@@ -84,29 +85,35 @@ fn agreeing(instance: u32, message: &[u8; 9], bits: usize, first: Calls) -> usiz
 
 // The message cut at 0: its closed state and its digest, how many cuts agree with them, whether the bits one by one do, and blocks of that
 // state.
-fn write_pieces(instance: u32, message: &[u8; 9], bits: usize)
+fn write_pieces(rt: &impl Print, instance: u32, message: &[u8; 9], bits: usize) -> io::Result<()>
     requires { bits ≤ 72 }
 {
     let cuts = bits + 1;
     let first = in_two(instance, message, bits, 0);
     let ones = bit_by_bit(instance, message, bits);
     let state = first.state;
-    write_state(state);
-    write_digest(first);
-    write_number(b"cut in two: answers ", first.digits);
-    write_number(b", ", agreeing(instance, message, bits, first) as u64);
-    write_number(b" of ", cuts as u64);
-    write(b" cuts agree\n");
-    write(b"bit by bit: ");
-    write_agreement(ones, first);
-    write_blocks(first);
+    write_state(rt, state)?;
+    write_digest(rt, first)?;
+    write_number(rt, b"cut in two: answers ", first.digits)?;
+    write_number(rt, b", ", agreeing(instance, message, bits, first) as u64)?;
+    write_number(rt, b" of ", cuts as u64)?;
+    write(rt, b" cuts agree\n")?;
+    write(rt, b"bit by bit: ")?;
+    write_agreement(rt, ones, first)?;
+    write_blocks(rt, first)
 }
 
 // The first bits of a message, as many as `bits`, whole and in pieces.
-pub fn write_cuts(heading: &[u8], instance: u32, message: &[u8; 9], bits: usize)
+pub fn write_cuts(
+    rt: &impl Print,
+    heading: &[u8],
+    instance: u32,
+    message: &[u8; 9],
+    bits: usize,
+) -> io::Result<()>
     requires { bits ≤ 72 }
 {
-    write(heading);
-    write_whole(b"whole digest: ", instance, message, bits);
-    write_pieces(instance, message, bits);
+    write(rt, heading)?;
+    write_whole(rt, b"whole digest: ", instance, message, bits)?;
+    write_pieces(rt, instance, message, bits)
 }

@@ -4,18 +4,18 @@ ghost use Rattle.std.specs.Prelude.{◌<◌};
 use crate::calls::Calls;
 use crate::compare::{same_outcome, smaller};
 use crate::widths::digest_bytes;
-use libc::STDOUT_FILENO;
 use refusals::number_of;
 use sponge::State;
+use std::io;
 
-pub fn write(text: &[u8]) {
-    io::write_all(STDOUT_FILENO, text);
+pub fn write(rt: &impl Print, text: &[u8]) -> io::Result<()> {
+    rt.write_all(text)
 }
 
 // A text, and a number after it.
-pub fn write_number(text: &[u8], number: u64) {
-    write(text);
-    io::print_decimal(STDOUT_FILENO, number);
+pub fn write_number(rt: &impl Print, text: &[u8], number: u64) -> io::Result<()> {
+    write(rt, text)?;
+    rt.print(number)
 }
 
 // A hexadecimal digit, in upper case.
@@ -30,63 +30,69 @@ fn digit(value: u8) -> u8
 }
 
 // Two hexadecimal digits.
-fn write_byte(byte: u8) {
+fn write_byte(rt: &impl Print, byte: u8) -> io::Result<()> {
     let digits = [digit(byte / 16), digit(byte % 16)];
-    write(&digits);
+    write(rt, &digits)
 }
 
 // The first `length` bytes in hexadecimal, or all where there are fewer, and a newline.
-fn write_first(bytes: &[u8], length: usize) {
+fn write_first(rt: &impl Print, bytes: &[u8], length: usize) -> io::Result<()> {
     let end = smaller(length, bytes.len());
     let mut i: usize = 0;
     while i < end {
-        write_byte(bytes[i]);
+        write_byte(rt, bytes[i])?;
         i += 1;
     }
-    write(b"\n");
+    write(rt, b"\n")
 }
 
 // The first `length` bytes of a state's bits, or of a digest, and a newline. They come by value: the prover finds the length of an array that
 // is lent here, and not of one that is lent after other calls.
-fn write_bits(bits: [u8; 32], length: usize) {
-    write_first(&bits, length);
+fn write_bits(rt: &impl Print, bits: [u8; 32], length: usize) -> io::Result<()> {
+    write_first(rt, &bits, length)
 }
 
 // The fields of a state, and a newline.
-pub fn write_state(state: State) {
-    write_number(b"instance ", state.instance as u64);
-    write_number(b", phase ", state.phase as u64);
-    write_number(b", total ", state.total as u64);
-    write_number(b", runs ", state.runs as u64);
-    write_number(b", extra ", state.extra as u64);
-    write(b", bits ");
+pub fn write_state(rt: &impl Print, state: State) -> io::Result<()> {
+    write_number(rt, b"instance ", state.instance as u64)?;
+    write_number(rt, b", phase ", state.phase as u64)?;
+    write_number(rt, b", total ", state.total as u64)?;
+    write_number(rt, b", runs ", state.runs as u64)?;
+    write_number(rt, b", extra ", state.extra as u64)?;
+    write(rt, b", bits ")?;
     let bits = state.bits;
-    write_bits(bits, 32);
+    write_bits(rt, bits, 32)
 }
 
 // The digest that calls came to, and a newline.
-pub fn write_digest(calls: Calls) {
+pub fn write_digest(rt: &impl Print, calls: Calls) -> io::Result<()> {
     let state = calls.state;
     let space = calls.space;
-    write(b"digest ");
-    write_first(&space, digest_bytes(state.instance));
+    write(rt, b"digest ")?;
+    write_first(rt, &space, digest_bytes(state.instance))
 }
 
 // A text, and the digest of the first bits of a message, as many as `bits`: its answer and its bytes.
-pub fn write_whole(text: &[u8], instance: u32, message: &[u8], bits: usize) {
+pub fn write_whole(
+    rt: &impl Print,
+    text: &[u8],
+    instance: u32,
+    message: &[u8],
+    bits: usize,
+) -> io::Result<()> {
     let mut space: [u8; 32] = [0; 32];
     let length = digest_bytes(instance);
     let answer = sponge::digest(instance, 8, message, bits, &mut space[0..length]);
-    write_number(text, number_of(answer) as u64);
-    write(b", ");
-    write_bits(space, length);
+    write_number(rt, text, number_of(answer) as u64)?;
+    write(rt, b", ")?;
+    write_bits(rt, space, length)
 }
 
 // Whether two lists of calls came to the same state and bytes, and a newline.
-pub fn write_agreement(a: Calls, b: Calls) {
+pub fn write_agreement(rt: &impl Print, a: Calls, b: Calls) -> io::Result<()> {
     if same_outcome(a, b) {
-        write(b"agrees\n");
+        write(rt, b"agrees\n")
     } else {
-        write(b"differs\n");
+        write(rt, b"differs\n")
     }
 }
