@@ -12,7 +12,7 @@ use Rattle.quark.specs.Step.{shift, step_L}
 use Rattle.quark.specs.Inverse.{unshift, gained, undo_step_L}
 use Rattle.quark.specs.Word.{word_bit, word_bits}
 use Rattle.quark.proofs.Bits.{Wide, parity_lt, bits_at, bits-tabulate}
-use Rattle.quark.proofs.Bytes.{length-tabulate, get_d_tabulate}
+use Rattle.quark.proofs.Bytes.{length-tabulate, get_or-tabulate}
 use Rattle.quark.proofs.Weights.{weighed, weighed_next, weighed_cong, weighed_fits, weighed_bit, weighed_bits}
 use Rattle.quark.proofs.Word.{low_xor, word_bit-lt, word_bit-mod, length-word_bits, get_or-word_bits, cons-word_bits, move_word_bits}
 use Rattle.permutation.specs.Steps.{bits_of_L, value_of_L}
@@ -67,7 +67,7 @@ at-weight a b k d e = ap (λ (n : ℕ). word_bit (weighed a n) d) (sym e) ∙ we
 
 bit-of_L : (value i : ℕ) → i < 10 → bit (bits_of_L value) i ≡ word_bit value (9 - i)
 unfolding bits_of_L word_bit
-bit-of_L value i h = get_d_tabulate 10 _ i h
+bit-of_L value i h = get_or-tabulate 10 _ i h
 
 length-bits_of_L : (value : ℕ) → length (bits_of_L value) ≡ 10
 unfolding bits_of_L

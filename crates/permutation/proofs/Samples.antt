@@ -72,7 +72,7 @@ zeros = replicate 17 0
 abbrev both_67 : List ℕ
 both_67 = set (set zeros 8 16) 16 1
 
--- the all_zero_lem state of U: h is L0, so X67 and Y67 are what L0 was, and L gains L0 + L3
+-- the all-zero state of U: h is L0, so X67 and Y67 are what L0 was, and L gains L0 + L3
 pub first-steps :
     -- one step from all ones, as document 01 has it; L is 1111111110
     (steps_outcome 1 1 1023 1 zeros ≡ accepted 1022) × (steps_bytes registers_after 1 1 1023 1 zeros ≡ both_67)

@@ -99,7 +99,7 @@ pub fn run_or_undo(
     count: u32,
 ) -> u32
     requires steppable { Steppable instance width l count bits.old }
-    requires width_nonzero { width ≢ 1 }
+    requires width_not_one { width ≢ 1 }
     ensures { CellsReached inverse (instance_of instance) l count bits.old bits.new result }
 {
     let half = half_of(instance);

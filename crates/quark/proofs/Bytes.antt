@@ -19,10 +19,10 @@ unfolding tabulate
 length-tabulate zero F = refl
 length-tabulate (suc n) F = length-append (tabulate n F) (F n ∷ []) ∙ omega (arith, length-tabulate n F)
 
-pub get_d_tabulate : (n : ℕ) (F : ℕ → ℕ) (i : ℕ) → i < n → get_or (tabulate n F) i 0 ≡ F i
+pub get_or-tabulate : (n : ℕ) (F : ℕ → ℕ) (i : ℕ) → i < n → get_or (tabulate n F) i 0 ≡ F i
 unfolding tabulate
-get_d_tabulate zero F i h = absurd (not-suc-le-zero h)
-get_d_tabulate (suc n) F i h = case (dec_lt i n) (get_d_tabulate n F i)
+get_or-tabulate zero F i h = absurd (not-suc-le-zero h)
+get_or-tabulate (suc n) F i h = case (dec_lt i n) (get_or-tabulate n F i)
   where
     case : Dec (i < n) → (i < n → get_or (tabulate n F) i 0 ≡ F i) → get_or (tabulate n F ++ (F n ∷ [])) i 0 ≡ F i
     case (yes q) r = get_or-append (tabulate n F) (F n ∷ []) 0 i (omega (arith, length-tabulate n F)) ∙ r q
@@ -44,11 +44,11 @@ wide_bits_of n bytes = (length-tabulate n (bit_at bytes), bits-tabulate n (bit_a
 
 pub get_or-bits_of : (n : ℕ) (bytes : List ℕ) (i : ℕ) → i < n → bit (bits_of n bytes) i ≡ bit_at bytes i
 unfolding bits_of
-get_or-bits_of n bytes i h = get_d_tabulate n (bit_at bytes) i h
+get_or-bits_of n bytes i h = get_or-tabulate n (bit_at bytes) i h
 
 pub get_or-bytes_of : (n : ℕ) (s : List ℕ) (j : ℕ) → j < n → get_or (bytes_of n s) j 0 ≡ byte_at s j
 unfolding bytes_of
-get_or-bytes_of n s j h = get_d_tabulate n (byte_at s) j h
+get_or-bytes_of n s j h = get_or-tabulate n (byte_at s) j h
 
 pub length-bytes_of : (n : ℕ) (s : List ℕ) → length (bytes_of n s) ≡ n
 unfolding bytes_of

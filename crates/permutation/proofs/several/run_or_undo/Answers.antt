@@ -61,7 +61,7 @@ reached c =
     let T = (instance_of a.instance).taps in
     let start : RegisterWords = record { x = c.load-x.result; y = c.load-y.result; l = a.l } in
     let words : c.run_or_undo_words-after.result ≡ ran_or_undone_words a.inverse T a.count start =
-    rw (loaded-fit c.requires.steppable c.requires.width_nonzero c.load-x.result c.load-y.result h h e c.load-x.ensures c.load-y.ensures) at c.run_or_undo_words-after.ensures in
+    rw (loaded-fit c.requires.steppable c.requires.width_not_one c.load-x.result c.load-y.result h h e c.load-x.ensures c.load-y.ensures) at c.run_or_undo_words-after.ensures in
     rw (c.save-2.ensures, first c.before.before, words)
     (words_reached a.instance a.bits.now c.requires.steppable.full c.requires.steppable.single c.load-x.result c.load-y.result a.l a.count a.inverse h e
     c.load-x.ensures c.load-y.ensures)
