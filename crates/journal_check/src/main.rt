@@ -2,8 +2,8 @@
 // records and runs, or `refused`, number and place. Where reading or writing fails, a line on standard error says so.
 //
 // What `report` answers is proved. The loop that reads is proved to be safe and to end, and the buffer to have the size that the law
-// `FirstBytes.report_of_first` of `journal` asks for; that the loop gathers the input, and tells a failed read from its end, no contract of
-// the kit can say: the host's tests try it (hosts/rust/tests/journal_check.rs).
+// `FirstBytes.report_of_first` of `journal` asks for; that the loop gathers the input, and tells a failed read from its end, is not proved,
+// since no contract of the kit says which bytes standard input gives: the host's tests try it (hosts/rust/tests/journal_check.rs).
 #![tactic(auto)]
 
 ghost use Rattle.std.specs.Prelude.{◌≡◌, ◌≤◌, ◌<◌, length};

@@ -59,8 +59,7 @@ fn write_fields(
     write(rt, b"\n")
 }
 
-// The fields of a state, and a newline. The bits come first: the prover finds the length of an array that is lent here, and not of one that
-// is lent after other calls.
+// The fields of a state, and a newline. The bits come first.
 pub fn write_state(rt: &impl Print, state: State) -> io::Result<()> {
     let bits = state.bits;
     write_bytes(rt, &bits)?;

@@ -46,8 +46,7 @@ fn write_first(rt: &impl Print, bytes: &[u8], length: usize) -> io::Result<()> {
     write(rt, b"\n")
 }
 
-// The first `length` bytes of a state's bits, or of a digest, and a newline. They come by value: the prover finds the length of an array that
-// is lent here, and not of one that is lent after other calls.
+// The first `length` bytes of a state's bits, or of a digest, and a newline.
 fn write_bits(rt: &impl Print, bits: [u8; 32], length: usize) -> io::Result<()> {
     write_first(rt, &bits, length)
 }
