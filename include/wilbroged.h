@@ -2,8 +2,8 @@
  * Wilbroged for C and C++: QUARK's permutation and its inverse, whole or some of their steps, its digest, sealed records and the journal
  * check.
  *
- * Link crates/wilbroged/out/libwilbroged.a, which `rt lib` writes in crates/wilbroged; it is for Linux on x86-64-v2, and of the C library it
- * needs memcpy, memmove and memset. The functions are those of crates/wilbroged, each proved to meet its contract there for every input; its
+ * Link crates/wilbroged/out/libwilbroged.a, which `rt lib --cpu x86-64` writes in crates/wilbroged; it is for Linux on x86-64, and of the C
+ * library it needs memcpy, memmove and memset. The functions are those of crates/wilbroged, each proved to meet its contract there for every input; its
  * comment here puts the contract into words. docs/RULES.md explains the rules and every refusal.
  *
  * Answers (journal_refused_at apart). WILBROGED_ACCEPTED, or the number of the first refusal that holds, in the order that the function's

@@ -4,12 +4,13 @@
 usage: python3 tools/respell.py [--check]     at the top of the repository, once, after /opt/rattle/port/port.py
 
     blockCount, bitsOfL, upTo2·3, fTaps     ->  block_count, bits_of_L, up_to_2_3, f_taps
-    accepted-still, undoSteps-add           ->  accepted_still, undo_steps-add
+    blocks-all, undoSteps-add               ->  blocks_all, undo_steps-add
 
-A capital that stands alone is a letter of the documents (L, P, X, Y, U, D, S) and stays. A dash stays where what stands before it is the name
-of a definition, as in length-snoc: there it joins two names; else it joins words and becomes '_'. Types, modules, functions of src/, exported
-C names and strings keep their names, and so do the names that Rattle makes. It reads .antt and .rt files and the pages that name theorems.
-It prints names that fall together, and with --check writes nothing.
+A capital that stands alone is a letter of the documents (L, P, X, Y, U, D, S) and stays. A name's first dash stays where what stands before it
+is the name of a definition of specs/ or of a word of std's, or such a letter, as in length-snoc: there it joins two names; every other one
+joins words and becomes '_'. OTHERWISE has the names that would fall together. Types, modules, functions of src/ and exported C names keep
+their names, since none is spelled so, and so do the names that Rattle makes. It reads .antt and .rt files, and what stands between backticks
+on the pages. It prints names that fall together, and with --check writes nothing.
 """
 
 import os

@@ -7,7 +7,7 @@ fn main() {
     let archive = folder.join("libwilbroged.a");
     println!("cargo::rerun-if-changed={}", archive.display());
     if !archive.is_file() {
-        println!("cargo::error={} is missing: run `rt lib` in crates/wilbroged first", archive.display());
+        println!("cargo::error={} is missing: run `rt lib --cpu x86-64` in crates/wilbroged first", archive.display());
         return;
     }
     println!("cargo::rustc-link-search=native={}", folder.display());

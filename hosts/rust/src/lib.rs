@@ -8,7 +8,7 @@
 //! The steps of the permutation P work on three registers: X is the first half of a state, Y the second, and L has ten bits of its own. L's
 //! value is a number in which bit 0 has weight 512 and bit 9 weight 1.
 //!
-//! The package links the archive that `rt lib` writes in `crates/wilbroged`, so run that first.
+//! The package links the archive that `rt lib --cpu x86-64` writes in `crates/wilbroged`, so run that first.
 //!
 //! A call that is refused answers the first refusal that holds, in the order that the function's comment gives, and writes nothing:
 //! [`Refused`] has its number, its place, and a sentence for people. `docs/RULES.md` explains the rules.

@@ -17,7 +17,7 @@ use std::process::{Command, Stdio};
 
 fn program() -> PathBuf {
     let path = PathBuf::from(concat!(env!("CARGO_MANIFEST_DIR"), "/../../crates/journal_check/out/journal_check"));
-    assert!(path.is_file(), "{} is missing: run `rt run` in crates/journal_check first", path.display());
+    assert!(path.is_file(), "{} is missing: run `rt run --cpu x86-64` in crates/journal_check first", path.display());
     path
 }
 

@@ -1,7 +1,7 @@
 //! The benchmark: permutation, inverse and digest at each width of each instance, and the journal check, each beside two peers in Rust in the
 //! same run: one of the same form, and one with a bit to a cell (`reference`). It prints one table of times and ratios and asserts nothing.
 //!
-//! `cargo run --release --offline --bin bench` in `hosts/rust`, after `rt lib` in `crates/wilbroged`.
+//! `cargo run --release --offline --bin bench` in `hosts/rust`, after `rt lib --cpu x86-64` in `crates/wilbroged`.
 mod cells;
 mod peer;
 mod records;
