@@ -1,16 +1,16 @@
 // The check program (document 01, "Record and journal"): reads a key and then a journal from standard input, and prints one line, `accepted`,
 // records and runs, or `refused`, number and place. Where reading or writing fails, a line on standard error says so.
 //
-// What `report` answers is proved. The loop that reads is proved to be safe and to end, and the buffer to have the size that the law
-// `FirstBytes.report_of_first` of `journal` asks for; that the loop gathers the input, and tells a failed read from its end, is not proved,
-// since no contract of the kit says which bytes standard input gives: the host's tests try it (hosts/rust/tests/journal_check.rs).
+// What `report` answers is proved, and that the buffer has the size that the law `FirstBytes.report_of_first` of `journal` asks for. That
+// `input::gather` fills it with the first bytes of a reader whose bytes are known is proved too; no contract of the kit says which bytes
+// standard input gives, nor when a read of it fails: the host's tests try it (hosts/rust/tests/journal_check.rs).
 #![tactic(auto)]
 
 ghost use Rattle.std.specs.Prelude.{◌≡◌, ◌≤◌, ◌<◌, length};
 ghost use Rattle.journal.specs.Report.{most_read};
 
-use journal::MOST_READ;
-use std::io::Read;
+use input::{ReadFailed, gather};
+use journal::{MOST_READ, Printed};
 
 // How many bytes to report on where a read failed, which is said on standard error. Fewer than a key are refused by line 5. Else it is the
 // whole buffer, which line 16 refuses where the key is blank, and line 9 as over-long where it is not, so that a failed read is never
@@ -27,16 +27,10 @@ fn read_input(rt: &(impl Input + Eprint), buffer: &mut [u8]) -> usize
     requires { length buffer.old ≡ most_read }
     ensures { result ≤ length buffer.old }
 {
-    let mut input = rt.reader();
-    let mut done: usize = 0;
-    while done < buffer.len() {
-        match input.read(&mut buffer[done..]) {
-            Err(_) => return after_failed_read(rt, done),
-            Ok(0) => return done,
-            Ok(count) => done += count,
-        }
+    match gather(&mut rt.reader(), buffer) {
+        Ok(count) => count,
+        Err(ReadFailed { after }) => after_failed_read(rt, after),
     }
-    done
 }
 
 // Prints a line.
@@ -49,8 +43,6 @@ fn print(rt: &(impl Print + Eprint), line: &[u8]) {
 fn main(rt: HostRuntime) {
     let mut buffer = [0u8; MOST_READ];
     let size = read_input(&rt, &mut buffer);
-    let text = journal::report(&buffer[0..size]);
-    let len = text.len;
-    let bytes = text.bytes;
-    print(&rt, &bytes[0..len]);
+    let Printed { bytes, len } = journal::report(&buffer[..size]);
+    print(&rt, &bytes[..len]);
 }

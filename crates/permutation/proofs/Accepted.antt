@@ -13,7 +13,7 @@ use Rattle.quark.proofs.Word.{wide_word_bits}
 use Rattle.permutation.specs.Lines.{line1, line4, most_steps, line20}
 use Rattle.permutation.specs.Permute.{permute_number, on_bytes, overwritten}
 use Rattle.permutation.specs.Steps.{value_of_L, steps_number}
-use Rattle.permutation.specs.leaf.Core.{Allowed}
+use Rattle.permutation.specs.leaf.Cells.{Allowed}
 use Rattle.permutation.proofs.RegisterL.{value-small}
 
 module _ (i w size : ℕ) (none : permute_number i w size ≡ 0) where

@@ -1,167 +1,191 @@
 -- Bits in cells and in words: the number that some cells hold, and the cells with a number's bits in them.
-use Rattle.std.specs.Prelude.{◌≡◌, ℕ, suc, ◌+◌, ◌-◌, ◌*◌, ◌^◌, ◌<◌, ◌≤◌, Bool, true, false, List, [], ◌∷◌, ◌++◌, length, get_or, take, drop, set}
-use mathlib.Core.List.{append_assoc}
+use Rattle.std.specs.Prelude.{◌≡◌, ℕ, suc, ◌+◌, ◌-◌, ◌*◌, ◌%◌, ◌^◌, ◌<◌, ◌≤◌, Bool, true, false, List, [], ◌∷◌, ◌++◌, length, get_or, take, drop, set}
+use mathlib.Core.List.{append_assoc, append-nil}
 use mathlib.Core.Path.{refl, sym, ap, ap₂, ◌∙◌, subst}
-use native.Mathlib.Nat.{add-zero, add-suc, add_comm, add_assoc, zero-add, pow-suc}
+use native.Mathlib.Numerals.{add-one}
+use native.Mathlib.Nat.{mod-eq_of_lt, add_comm, pow-suc}
 use native.Mathlib.Omega.{arith}
 use lib.Arith.{digits_lt}
-use lib.ListN.{length-append, length-drop, take-append-drop}
-use lib.Pow.{pow-add}
-use lib.Seq.{drop-cons, set_at, length-take-le, take-take, take-add, drop-drop, drop_at, take_at}
-use Rattle.quark.specs.Feedback.{Taps}
-use Rattle.quark.specs.Instance.{instance_of}
-use Rattle.quark.specs.Step.{Registers, steps, steps_L, loaded, stored}
+use lib.ListN.{length-append, drop_of_length-le}
+use lib.Bits.{bit_or, or_shifted}
+use lib.Pow.{pow-add, pow_mono}
+use Rattle.std.specs.Prelude.{reverse, if◌then◌else◌}
+use Rattle.std.specs.List.{fold}
+use Rattle.std.proofs.lemmas.List.{reverse-append}
+use Rattle.std.proofs.lemmas.List.Sums.{fold-append}
+use lib.Seq.{drop-cons, set_at, drop-drop, drop_at, take_at}
+use borrow.Rule.Slice.PartMut.{put_mid, post_of}
+use Rattle.quark.specs.Instance.{Instance, instance_of}
+use Rattle.quark.specs.Step.{Registers, steps_L, loaded}
 use Rattle.quark.specs.Word.{word_bit, word_bits}
-use Rattle.quark.proofs.Instance.{regular, in_bytes}
 use Rattle.quark.proofs.Inverse.{Sized}
 use Rattle.quark.proofs.Together.{registers-path}
 use Rattle.quark.proofs.Word.{length-word_bits, append_word_bits, cons-word_bits, snoc-word_bits}
+use Rattle.words.specs.Instances.{named}
+use Rattle.words.specs.declared.instances.Instance as code
 use Rattle.words.specs.declared.Register.{Register}
 use Rattle.words.specs.declared.RegisterWords.{RegisterWords}
-use Rattle.words.specs.Words.{value, word_registers, registers_of, words_after, words_before, fits}
+use Rattle.words.specs.Words.{value, word_registers, fits}
 use Rattle.words.proofs.Fits.{fits-tested}
 use Rattle.words.proofs.InWords.{Held, sized_words, held_after, held_before}
-use Rattle.permutation.specs.leaf.Core.{Cells, Steppable, registers_reached, CellsHold, CellsReached}
-use Rattle.permutation.specs.leaf.Several.{written, ran_or_undone_words}
-use Rattle.permutation.proofs.Cells.{drop-take}
-use Rattle.permutation.proofs.SerialSteps.{serial_cells, cells-hold}
+use Rattle.permutation.specs.declared.cells.RegisterCells.{RegisterCells}
+use Rattle.permutation.specs.declared.taps.Taps as code-taps
+use Rattle.permutation.specs.leaf.Cells.{Cells, Allowed}
+use Rattle.permutation.specs.leaf.Core.{registers_reached, registers}
+use Rattle.permutation.specs.leaf.Several.{ran_or_undone_words}
+use Rattle.permutation.specs.leaf.Taps.{AreTaps}
+use Rattle.permutation.proofs.SerialSteps.{SerialCells, serial_cells, Laid, sized, x_part, y_part, both_halves, cells-hold}
 
--- r holds the k bits of s from cell p on
-abbrev pub Holds : List ℕ → (k p r : ℕ) → Type 0
-Holds s k p r = (r < 2 ^ k) × (word_bits k r ≡ take k (drop p s))
+-- r is the number of the cells s
+abbrev pub Holds : List ℕ → ℕ → Type 0
+Holds s r = (r < 2 ^ length s) × (word_bits (length s) r ≡ s)
 
-pub holds-none : (s : List ℕ) (p : ℕ) → Holds s 0 p 0
+-- a cell put below a word of at most 63 bits
+abbrev pub below : ℕ → ℕ → ℕ
+below word cell = bit_or (word * 2 % 2 ^ 64) cell
+
+below-digits : (word cell k : ℕ) → word < 2 ^ k → k ≤ 63 → cell < 2 → below word cell ≡ word * 2 + cell
+below-digits word cell k h g b =
+    let p : 2 ^ k ≤ 2 ^ 63 = pow_mono g in
+    let e : word * 2 % 2 ^ 64 ≡ word * 2 = mod-eq_of_lt (omega arith) in
+    ap (λ (w : ℕ). bit_or w cell) e ∙ or_shifted word 1 cell b
+
+-- the cells, from the last to the first, each put below those after it
+pub read_back : (s : List ℕ) → length s ≤ 64 → Cells s → Holds s (fold below 0 (reverse s))
 unfolding word_bits
-holds-none s p = (omega arith, refl)
+read_back [] h single = (omega arith, refl)
+read_back (b ∷ s) h single =
+    let w = fold below 0 (reverse s) in
+    let rest : Holds s w = read_back s (omega arith) (λ i. single (suc i)) in
+    let e : fold below 0 (reverse (b ∷ s)) ≡ w * 2 + b =
+    ap (fold below 0) (reverse-append (b ∷ []) s) ∙ fold-append below 0 (reverse s) (b ∷ []) ∙ below-digits w b (length s) rest.0 (omega arith) (single 0) in
+    rw e (rw pow-suc (digits_lt rest.0 (single 0)), cons-word_bits (length s) w b (single 0) ∙ ap (λ (l : List ℕ). b ∷ l) rest.1)
 
-pub holds_more : (s : List ℕ) (k p r : ℕ) → p < length s → get_or s p 0 < 2 → Holds s k (suc p) r → Holds s (suc k) p (r * 2 + get_or s p 0)
-holds_more s k p r h b i = (
-  rw pow-suc (digits_lt i.0 b),
-  cons-word_bits k r (get_or s p 0) b ∙ ap (λ (l : List ℕ). get_or s p 0 ∷ l) i.1 ∙ sym (ap (take (suc k)) (drop-cons s p 0 h)),
+-- two words that hold cells and those after them hold both
+pub both : (s t : List ℕ) (lo hi : ℕ) → Holds s lo → Holds t hi → Holds (s ++ t) (hi * 2 ^ length s + lo)
+both s t lo hi p q = (
+  rw (length-append s t, add_comm (length s) (length t), pow-add) (digits_lt q.0 p.0),
+  ap (λ (n : ℕ). word_bits n (hi * 2 ^ length s + lo)) (length-append s t)
+      ∙ sym (append_word_bits (length s) (length t) lo hi p.0)
+      ∙ ap₂ ◌++◌ p.1 q.1,
 )
 
-pub written_none : (s : List ℕ) (word p : ℕ) → s ≡ written s p 0 word
-unfolding word_bits
-written_none s word p = sym (take-append-drop p s) ∙ ap (λ (q : ℕ). take p s ++ drop q s) (sym (add-zero p))
+-- the digits of two words, of which the lower has a digits
+pub words_beside : (a c n lo hi : ℕ) → lo < 2 ^ a → a + c ≡ n → word_bits a lo ++ word_bits c hi ≡ word_bits n (hi * 2 ^ a + lo)
+words_beside a c n lo hi h e = append_word_bits a c lo hi h ∙ ap (λ (k : ℕ). word_bits k (hi * 2 ^ a + lo)) e
 
-pub written-more : (s : List ℕ) (word p i : ℕ) → p + i < length s → set (written s p i word) (p + i) (word_bit word i) ≡ written s p (suc i) word
-written-more s word p i h =
-    let a : List ℕ = take p s in
-    let b : List ℕ = word_bits i word in
-    let v : ℕ = word_bit word i in
-    let l : length (a ++ b) ≡ p + i =
-    length-append a b ∙ ap₂ (λ (x y : ℕ). x + y) (length-take-le p s (omega arith)) (length-word_bits i word) in
-    ap (λ (t : List ℕ). set (a ++ (b ++ t)) (p + i) v) (drop-cons s (p + i) 0 h)
-    ∙ ap (λ (t : List ℕ). set t (p + i) v) (sym (append_assoc a b (get_or s (p + i) 0 ∷ drop (suc (p + i)) s)))
-    ∙ set_at (a ++ b) (get_or s (p + i) 0) (drop (suc (p + i)) s) v (p + i) l
-    ∙ append_assoc a b (v ∷ drop (suc (p + i)) s)
-    ∙ ap (λ (t : List ℕ). a ++ t) (sym (append_assoc b (v ∷ []) (drop (suc (p + i)) s)))
-    ∙ ap₂ (λ (t : List ℕ) (q : ℕ). a ++ (t ++ drop q s)) (sym (snoc-word_bits i word)) (sym (add-suc p i))
+-- one more cell written
+pub written_more : (s : List ℕ) (word i : ℕ) → i < length s
+    → set (word_bits i word ++ drop i s) i (word_bit word i) ≡ word_bits (i + 1) word ++ drop (i + 1) s
+written_more s word i h =
+    ap (λ (t : List ℕ). set (word_bits i word ++ t) i (word_bit word i)) (drop-cons s i 0 h)
+    ∙ set_at (word_bits i word) (get_or s i 0) (drop (suc i) s) (word_bit word i) i (length-word_bits i word)
+    ∙ sym (append_assoc (word_bits i word) (word_bit word i ∷ []) (drop (suc i) s))
+    ∙ ap (λ (t : List ℕ). t ++ drop (suc i) s) (sym (snoc-word_bits i word))
+    ∙ ap (λ (n : ℕ). word_bits n word ++ drop n s) (sym (add-one i))
 
--- the digits of two words, the lower of a digits
-pub words_append : (a c hi lo : ℕ) → lo < 2 ^ a → word_bits (a + c) (hi * 2 ^ a + lo) ≡ word_bits a lo ++ word_bits c hi
-words_append a c hi lo h = sym (append_word_bits a c lo hi h)
+-- and all of them
+pub written_all : (s : List ℕ) (word i : ℕ) → i ≡ length s → word_bits i word ++ drop i s ≡ word_bits (length s) word
+written_all s word i e =
+    let l : length s ≤ i = omega arith in
+    ap (λ (t : List ℕ). word_bits i word ++ t) (drop_of_length-le s l) ∙ append-nil (word_bits i word) ∙ ap (λ (n : ℕ). word_bits n word) e
 
--- two words that hold a bits and the c bits after them hold both
-pub holds-words : (s : List ℕ) (a c p hi lo : ℕ) → Holds s a p lo → Holds s c (p + a) hi → Holds s (a + c) p (hi * 2 ^ a + lo)
-holds-words s a c p hi lo hl hh = (
-  rw (add_comm a c, pow-add) (digits_lt hh.0 hl.0),
-  words_append a c hi lo hl.0
-      ∙ ap₂ ◌++◌ hl.1 (hh.1 ∙ ap (take c) (sym (drop-drop a p s)))
-      ∙ sym (take-add a c (drop p s)),
-)
+-- ---- X and Y taken as words from the cells, stepped, and written back
 
--- a bits of one word written, and c bits of another after them
-pub written-words : (s : List ℕ) (a c p hi lo : ℕ) → p + (a + c) ≤ length s → lo < 2 ^ a
-    → written (written s p a lo) (p + a) c hi ≡ written s p (a + c) (hi * 2 ^ a + lo)
-written-words s a c p hi lo h b =
-    let f : List ℕ = take p s in
-    let w : List ℕ = word_bits a lo in
-    let r : List ℕ = drop (p + a) s in
-    let l : length (f ++ w) ≡ p + a = length-append f w ∙ ap₂ (λ (x y : ℕ). x + y) (length-take-le p s (omega arith)) (length-word_bits a lo) in
-    let j : f ++ (w ++ r) ≡ (f ++ w) ++ r = sym (append_assoc f w r) in
-    ap₂ (λ (x y : List ℕ). x ++ (word_bits c hi ++ y)) (ap (take (p + a)) j ∙ take_at (f ++ w) r (p + a) l)
-    (ap (drop (p + a + c)) j ∙ sym (drop-drop c (p + a) ((f ++ w) ++ r)) ∙ ap (drop c) (drop_at (f ++ w) r (p + a) l) ∙ drop-drop c (p + a) s)
-    ∙ append_assoc f w (word_bits c hi ++ drop (p + a + c) s)
-    ∙ ap (λ (x : List ℕ). f ++ x) (sym (append_assoc w (word_bits c hi) (drop (p + a + c) s)))
-    ∙ ap₂ (λ (x : List ℕ) (q : ℕ). f ++ (x ++ drop q s)) (append_word_bits a c lo hi b) (add_assoc p a c)
+read_part : {s t : List ℕ} {r : ℕ} → s ≡ t → Holds s r → Holds t r
+read_part {s} {t} {r} e p = subst (λ (u : List ℕ). Holds u r) e p
 
--- writing keeps the length
-pub length-written : (s : List ℕ) (p n word : ℕ) → p + n ≤ length s → length (written s p n word) ≡ length s
-length-written s p n word h =
-    let e : length (word_bits n word ++ drop (p + n) s) ≡ n + (length s - (p + n)) =
-    length-append (word_bits n word) (drop (p + n) s) ∙ ap₂ (λ (x y : ℕ). x + y) (length-word_bits n word) (length-drop (p + n) s) in
-    length-append (take p s) (word_bits n word ++ drop (p + n) s) ∙ ap₂ (λ (x y : ℕ). x + y) (length-take-le p s (omega arith)) e ∙ omega arith
+-- a list of h bits
+at_half : (s : List ℕ) (h r : ℕ) → length s ≡ h → Holds s r → (r < 2 ^ h) × (word_bits h r ≡ s)
+at_half s h r e p = subst (λ (n : ℕ). (r < 2 ^ n) × (word_bits n r ≡ s)) e p
 
--- cells that hold X and then Y, with L beside them, are the registers that the words hold
-loaded-words : (T : Taps) (s : List ℕ) (b x y : ℕ) (L : List ℕ) → b ≡ T.half + T.half → b ≤ length s
-    → word_bits T.half x ≡ take T.half (drop 0 s) → word_bits T.half y ≡ take T.half (drop T.half s)
-    → loaded T (take b s) L ≡ record { X = word_bits T.half x; Y = word_bits T.half y; L = L }
-unfolding loaded
-loaded-words T s b x y L e h ex ey =
-    registers-path (ap (λ (n : ℕ). take T.half (take n s)) e ∙ take-take T.half (T.half + T.half) s (omega arith) ∙ sym ex)
-    (ap (λ (n : ℕ). drop T.half (take n s)) e ∙ drop-take T.half T.half s (omega arith) ∙ sym ey) refl
+-- the first h elements, and the h after them, written over
+written_halves : (s a b : List ℕ) (h : ℕ) → length a ≡ h → put_mid h (2 * h - h) (a ++ post_of 0 h s) b ≡ a ++ (b ++ drop (2 * h) s)
+written_halves s a b h e =
+    let n : h + (2 * h - h) ≡ 2 * h = omega arith in
+    ap₂ (λ (u v : List ℕ). u ++ (b ++ drop (2 * h - h) v)) (take_at a (drop h s) h e) (drop_at a (drop h s) h e)
+    ∙ ap (λ (v : List ℕ). a ++ (b ++ v)) (drop-drop (2 * h - h) h s ∙ ap (λ (k : ℕ). drop k s) n)
 
--- the words written to the cells are the registers stored there
-stored-words : (T : Taps) (s : List ℕ) (b x y l : ℕ) → b ≡ T.half + T.half → b ≤ length s → x < 2 ^ T.half
-    → written (written s 0 T.half x) T.half T.half y ≡ stored (word_registers T x y l) ++ drop b s
-unfolding stored word_registers
-stored-words T s b x y l e h less =
-    let half = T.half in
-    ap (λ (n : ℕ). written (written s 0 half x) n half y) (sym (zero-add half))
-    ∙ written-words s half half 0 y x (rw zero-add (omega arith)) less
-    ∙ ap₂ (λ (r : List ℕ) (n : ℕ). r ++ drop n s) (words_append half half y x less) (zero-add (half + half) ∙ sym e)
+module _ {I : Instance} {bits : List ℕ} {l half : ℕ} (R : SerialCells I bits l half) (x y : Register) where
+  module _ (hx : Holds (take half (take (2 * half) bits)) (value x)) (hy : Holds (drop half (take (2 * half) bits)) (value y)) where
+    fitted-x : (value x < 2 ^ I.taps.half) × (word_bits I.taps.half (value x) ≡ (registers I bits l).X)
+    fitted-x = at_half (registers I bits l).X I.taps.half (value x) (sized R).wide_X.0 (subst (λ (s : List ℕ). Holds s (value x)) (x_part R) hx)
 
--- words that were loaded from cells, taken n steps or n steps back, and written back
-module _ (i : ℕ) (s : List ℕ) (full : length s ≡ 256) (single : Cells s) (x y : Register) (l n : ℕ) where
-  abbrev T : Taps
-  T = (instance_of i).taps
+    fitted-y : (value y < 2 ^ I.taps.half) × (word_bits I.taps.half (value y) ≡ (registers I bits l).Y)
+    fitted-y = at_half (registers I bits l).Y I.taps.half (value y) (sized R).wide_Y.0 (subst (λ (s : List ℕ). Holds s (value y)) (y_part R) hy)
 
-  halves : (instance_of i).b ≡ T.half + T.half
-  halves = omega (arith, (regular i).two_halves)
+    loaded-words : (L : List ℕ) → loaded I.taps (take I.b bits) L ≡ record { X = word_bits I.taps.half (value x); Y = word_bits I.taps.half (value y); L = L }
+    unfolding registers loaded
+    loaded-words L = registers-path (sym fitted-x.1) (sym fitted-y.1) refl
 
-  long : (instance_of i).b ≤ length s
-  long = omega (arith, full, (in_bytes i).at-most_256)
+    -- such words, with an L of ten bits, fit
+    loaded-fit : {i w n start : ℕ} → I ≡ instance_of i → Allowed i w start n → l < 1024 → (w ≡ 1 → ⊥) → fits i w n (record { x = x; y = y; l = l }) ≡ true
+    loaded-fit {i} {w} {n} e given small more =
+        fits-tested i w n (record { x = x; y = y; l = l })
+        (record {
+          has_instance = given.has_instance;
+          width = given.has_width;
+          more = more;
+          whole = given.whole;
+          words = record { fits_X = rw e at fitted-x.0; fits_Y = rw e at fitted-y.0; fits_L = small };
+        })
 
-  abbrev start : RegisterWords
-  start = record { x = x; y = y; l = l }
+    -- so the word form steps them
+    stepped-words : {i w n start l' : ℕ} {t : RegisterWords} (inverse : Bool) → I ≡ instance_of i → Allowed i w start n → l < 1024 → (w ≡ 1 → ⊥) → l' ≡ l
+        → t ≡ (if fits i w n (record { x = x; y = y; l = l' })
+        then ran_or_undone_words inverse (instance_of i).taps n (record { x = x; y = y; l = l' }) else (record { x = x; y = y; l = l' }))
+        → t ≡ ran_or_undone_words inverse I.taps n (record { x = x; y = y; l = l })
+    stepped-words {i} {w} {n} {start} {l'} {t} inverse e given small more el et =
+        let now : RegisterWords = record { x = x; y = y; l = l } in
+        let et' : t ≡ (if fits i w n now then ran_or_undone_words inverse (instance_of i).taps n now else now) =
+        subst (λ (k : ℕ). t ≡ (if fits i w n (record { x = x; y = y; l = k }) then ran_or_undone_words inverse (instance_of i).taps n (record { x = x; y = y; l = k }) else (record { x = x; y = y; l = k }))) el et in
+        et'
+        ∙ ap (λ (b : Bool). (if b then ran_or_undone_words inverse (instance_of i).taps n now else now)) (loaded-fit e given small more)
+        ∙ ap (λ (J : Instance). ran_or_undone_words inverse J.taps n now) (sym e)
 
-  -- words that hold registers, written to the cells
-  written_held : (t : RegisterWords) (q : Registers) → Held T t q
-      → CellsHold (instance_of i) q s (written (written s 0 T.half (value t.x)) T.half T.half (value t.y)) t.l
-  unfolding stored word_registers
-  written_held t q held =
-      let z : Sized T q = subst (Sized T) held.0 (sized_words T (value t.x) (value t.y) t.l) in
-      cells-hold (serial_cells i s l T.half refl full single) t.l held.1.fits_L q z (ap (λ (r : Registers). r.L) held.0)
-      (stored-words T s (instance_of i).b (value t.x) (value t.y) t.l halves long held.1.fits_X
-      ∙ ap (λ (r : Registers). stored r ++ drop (instance_of i).b s) held.0
-      ∙ append_assoc q.X q.Y (drop (instance_of i).b s))
+    module _ (n : ℕ) where
+      abbrev start : RegisterWords
+      start = record { x = x; y = y; l = l }
 
-  on_halves : (inverse : Bool) → Holds s T.half 0 (value x) → Holds s T.half T.half (value y)
-      → let t = ran_or_undone_words inverse T n start in
-      CellsReached inverse (instance_of i) l n s (written (written s 0 T.half (value t.x)) T.half T.half (value t.y)) t.l
-  unfolding registers_reached word_registers ran_or_undone_words
-  on_halves false hx hy =
-      rw (loaded-words T s (instance_of i).b (value x) (value y) (word_bits 10 l) halves long hx.1 hy.1)
-      (written_held (words_after T n start) (steps T n (registers_of T start)) (held_after T (regular i).lawful n start))
-  on_halves true hx hy =
-      rw (loaded-words T s (instance_of i).b (value x) (value y) (steps_L n (word_bits 10 l)) halves long hx.1 hy.1)
-      (written_held (words_before T n start) _ (held_before T (regular i).lawful n start))
+      -- they hold the registers reached
+      held : (inverse : Bool) → Held I.taps (ran_or_undone_words inverse I.taps n start) (registers_reached inverse I.taps l n (take I.b bits))
+      unfolding registers_reached word_registers
+      held false = rw (loaded-words (word_bits 10 l)) (held_after I.taps R.regular.lawful n start)
+      held true = rw (loaded-words (steps_L n (word_bits 10 l))) (held_before I.taps R.regular.lawful n start)
 
-  pub words_reached : (inverse : Bool) (half : ℕ) → half ≡ T.half → Holds s half 0 (value x) → Holds s half half (value y)
-      → let t = ran_or_undone_words inverse T n start in
-      CellsReached inverse (instance_of i) l n s (written (written s 0 half (value t.x)) half half (value t.y)) t.l
-  words_reached inverse half eh hx hy = rw eh (on_halves inverse (rw eh at hx) (rw eh at hy))
+      -- and so do the cells, once they are written
+      words_reached : (inverse : Bool) (t : RegisterWords) → t ≡ ran_or_undone_words inverse I.taps n start → (a b : List ℕ) (k m : ℕ)
+          → a ≡ word_bits k (value t.x) → b ≡ word_bits m (value t.y) → k ≡ half → m ≡ half
+          → Laid I (registers_reached inverse I.taps l n (take I.b bits)) bits (put_mid half (2 * half - half) (a ++ post_of 0 half bits) b) t.l
+          × (t.l < 1024)
+      unfolding word_registers
+      words_reached inverse t et a b k m ea eb ek em =
+          let q = registers_reached inverse I.taps l n (take I.b bits) in
+          let h : Held I.taps t q = subst (λ (u : RegisterWords). Held I.taps u q) (sym et) (held inverse) in
+          let z : Sized I.taps q = subst (Sized I.taps) h.0 (sized_words I.taps (value t.x) (value t.y) t.l) in
+          let ax : a ≡ q.X = ea ∙ ap (λ (j : ℕ). word_bits j (value t.x)) (ek ∙ R.is_half) ∙ ap (λ (r : Registers). r.X) h.0 in
+          let by : b ≡ q.Y = eb ∙ ap (λ (j : ℕ). word_bits j (value t.y)) (em ∙ R.is_half) ∙ ap (λ (r : Registers). r.Y) h.0 in
+          let long : length a ≡ half = ap length ax ∙ z.wide_X.0 ∙ sym R.is_half in (
+            cells-hold R t.l q z (ap (λ (r : Registers). r.L) h.0)
+                (written_halves bits a b half long
+                ∙ ap₂ (λ (u v : List ℕ). u ++ (v ++ drop (2 * half) bits)) ax by
+                ∙ ap (λ (c : ℕ). q.X ++ (q.Y ++ drop c bits)) (both_halves R)),
+            h.1.fits_L,
+          )
 
--- such words, with an L of ten bits, fit
-pub loaded-fit : {i w l n : ℕ} {s : List ℕ} → Steppable i w l n s → (w ≡ 1 → ⊥) → (x y : Register) (half p : ℕ) → half ≡ (instance_of i).taps.half
-    → Holds s half 0 (value x) → Holds s half p (value y) → fits i w n (record { x = x; y = y; l = l }) ≡ true
-loaded-fit {i} {w} {l} {n} given more x y half p e hx hy =
-    fits-tested i w n (record { x = x; y = y; l = l })
-    (record {
-      has_instance = given.allowed.has_instance;
-      width = given.allowed.has_width;
-      more = more;
-      whole = given.allowed.whole;
-      words = record { fits_X = rw e at hx.0; fits_Y = rw e at hy.0; fits_L = given.allowed.small };
-    })
+-- a call of the word form: X and Y are read from the first cells, and the answer's are written over them
+pub call_reached : (n : code.Instance) (state : RegisterCells) (taps : code-taps.Taps) (x y : Register) {i w count given l k m : ℕ} {t : RegisterWords}
+    {front back a b : List ℕ} (inverse : Bool) → named n ≡ instance_of i → AreTaps (named n).taps taps → length state.bits ≡ 256
+    → front ≡ take taps.half (take (2 * taps.half) state.bits) → back ≡ drop taps.half (take (2 * taps.half) state.bits)
+    → Holds front (value x) → Holds back (value y) → Allowed i w given count → (w ≡ 1 → ⊥) → l ≡ state.l.value
+    → t ≡ (if fits i w count (record { x = x; y = y; l = l })
+    then ran_or_undone_words inverse (instance_of i).taps count (record { x = x; y = y; l = l }) else (record { x = x; y = y; l = l }))
+    → a ≡ word_bits k (value t.x) → b ≡ word_bits m (value t.y) → k ≡ taps.half → m ≡ taps.half
+    → Laid (instance_of i) (registers_reached inverse (instance_of i).taps state.l.value count (take (instance_of i).b state.bits)) state.bits
+    (put_mid taps.half (2 * taps.half - taps.half) (a ++ post_of 0 taps.half state.bits) b) t.l
+    × (t.l < 1024)
+call_reached n state taps x y inverse e of full at-front at-back hx hy allowed more el et ea eb ek em =
+    let R = subst (λ (I : Instance). SerialCells I state.bits state.l.value taps.half) e (serial_cells n state taps of full) in
+    let px = read_part at-front hx in
+    let py = read_part at-back hy in
+    words_reached R x y px py _ inverse _ (stepped-words R x y px py inverse refl allowed state.l.small more el et) _ _ _ _ ea eb ek em

@@ -2,10 +2,14 @@
 use Rattle.std.specs.Prelude.{ℕ, ◌+◌, ◌<◌, ◌≤◌, [], ◌∷◌, length, get_or}
 use native.Mathlib.Omega.{arith}
 use Rattle.quark.specs.Feedback.{Taps, exchange}
-use Rattle.quark.specs.Instance.{U, D, S, instance_of}
+use Rattle.quark.specs.Instance as quark
+use Rattle.quark.specs.Instance.{instance_of}
 use Rattle.quark.proofs.Taps.{all_at, all_left, all_right, Lawful, Reach, reach_less, lawful_U, lawful_D, lawful_S}
 use Rattle.quark.proofs.Feedback.{all_exchange, first-at_zero}
 use Rattle.quark.proofs.Instance.{of_each, regular}
+use Rattle.words.specs.Instances.{named}
+use Rattle.words.specs.declared.instances.Instance.{Instance}
+use Rattle.words.specs.declared.instances.Instance.TheVariants.{U, D, S}
 
 -- every tap that the code reads is below the half
 pub record Below (T : Taps) : Type 0 where
@@ -40,8 +44,15 @@ taps-below T W R =
 
 reach : (i : ℕ) → Reach (instance_of i).taps 1
 reach =
-    of_each (λ I. Reach I.taps 1) (reach_less U.taps 1 8 (omega arith) lawful_U.1) (reach_less D.taps 1 8 (omega arith) lawful_D.1)
-    (reach_less S.taps 1 16 (omega arith) lawful_S.1)
+    of_each (λ I. Reach I.taps 1) (reach_less quark.U.taps 1 8 (omega arith) lawful_U.1) (reach_less quark.D.taps 1 8 (omega arith) lawful_D.1)
+    (reach_less quark.S.taps 1 16 (omega arith) lawful_S.1)
 
-pub below : (i : ℕ) → Below (instance_of i).taps
-below i = taps-below (instance_of i).taps (regular i).lawful (reach i)
+-- what holds for each number holds for each name
+pub by_name : (P : quark.Instance → Type 0) → ((i : ℕ) → P (instance_of i)) → (n : Instance) → P (named n)
+unfolding named instance_of
+by_name P e U = e 1
+by_name P e D = e 2
+by_name P e S = e 3
+
+pub below : (n : Instance) → Below (named n).taps
+below = by_name (λ I. Below I.taps) (λ i. taps-below (instance_of i).taps (regular i).lawful (reach i))

@@ -4,7 +4,7 @@ pub mod Instances
 pub mod SingleBits
 pub mod Tabulate
 pub mod RegisterL
-pub mod Cells
+pub mod MovedCells
 pub mod SerialSteps
 pub mod Accepted
 pub mod Overwriting

@@ -3,7 +3,7 @@
 use Rattle.std.specs.Prelude.{◌≡◌, ℕ, ◌-◌, ◌*◌, ◌≤◌, Bool, true, false, cond, List, ◌++◌, length, take, drop, replicate}
 use mathlib.Core.Path.{refl, sym, ap, ap₂, ◌∙◌, subst}
 use native.Mathlib.Omega.{arith}
-use lib.ListN.{length-append, length-replicate, take-append-drop}
+use lib.ListN.{take-append-drop}
 use lib.Seq.{length-take-le, take_at}
 use Rattle.quark.specs.Bytes.{bits_of, bytes_of}
 use Rattle.quark.specs.Feedback.{Taps}
@@ -17,12 +17,14 @@ use Rattle.quark.proofs.Instance.{in_bytes, regular}
 use Rattle.quark.proofs.Inverse.{stored_loaded}
 use Rattle.permutation.specs.Permute.{on_bytes}
 use Rattle.permutation.specs.Steps.{value_of_L, registers_after, registers_before}
-use Rattle.permutation.specs.leaf.Core.{Cells, registers_reached, registers, CellsReached, BufferReached, permuted}
+use Rattle.permutation.specs.leaf.Cells.{Cells}
+use Rattle.permutation.specs.leaf.Core.{registers_reached, registers, CellsReached, BufferReached, permuted}
+use Rattle.permutation.specs.declared.cells.RegisterCells.{RegisterCells}
 use Rattle.permutation.proofs.RegisterL.{start-bits}
 
 -- 4b steps from all ones: P and its inverse
 all_rounds : (inverse : Bool) (T : Taps) (s : List ℕ) → stored (registers_reached inverse T 1023 (rounds T) s) ≡ permuted inverse T s
-unfolding registers_reached permuted P undo_P all_ones word_bits
+unfolding registers_reached P undo_P all_ones word_bits
 all_rounds true T s = refl
 all_rounds false T s = refl
 
@@ -60,38 +62,32 @@ module _ (i : ℕ) (bytes : List ℕ) (n : length bytes ≡ state_bytes i) where
       take_at s z (instance_of i).b ((wide_bits_of (8 * length bytes) bytes).0 ∙ width) ∙ ap (λ (k : ℕ). bits_of k bytes) width
 
   -- the cells after loading
-  module _ (before : List ℕ) (e : before ≡ cells) where
-    pub load_length : length before ≡ 256
-    load_length =
-        ap length e
-        ∙ length-append (bits_of (8 * length bytes) bytes) (replicate (256 - 8 * length bytes) 0)
-        ∙ omega (arith, (wide_bits_of (8 * length bytes) bytes).0, length-replicate {A = ℕ} (256 - 8 * length bytes) 0, load_fits)
+  pub load_cells : (before : List ℕ) → before ≡ cells → Cells before
+  load_cells before e = subst Cells (sym e) loaded-cells
 
-    pub load_cells : Cells before
-    load_cells = subst Cells (sym e) loaded-cells
+  -- the buffer once the cells that were reached are stored
+  module _ (before after : RegisterCells) (e : before.bits ≡ cells) (inverse : Bool) (count : ℕ)
+      (reached : CellsReached inverse (instance_of i) count before after) where
+    front_cells : take (instance_of i).b before.bits ≡ bits_of (instance_of i).b bytes
+    front_cells = ap (take (instance_of i).b) e ∙ first-cells
 
-    -- the buffer once the cells that were reached are stored
-    module _ (inverse : Bool) (l count : ℕ) (after : List ℕ) (l' : ℕ) (reached : CellsReached inverse (instance_of i) l count before after l') where
-      front_cells : take (instance_of i).b before ≡ bits_of (instance_of i).b bytes
-      front_cells = ap (take (instance_of i).b) e ∙ first-cells
+    registers-reached : registers (instance_of i) after.bits after.l.value ≡ registers_reached inverse (instance_of i).taps before.l.value count (bits_of (instance_of i).b bytes)
+    registers-reached = reached.holds ∙ ap (registers_reached inverse (instance_of i).taps before.l.value count) front_cells
 
-      registers-reached : registers (instance_of i) after l' ≡ registers_reached inverse (instance_of i).taps l count (bits_of (instance_of i).b bytes)
-      registers-reached = reached.holds ∙ ap (registers_reached inverse (instance_of i).taps l count) front_cells
-
-      pub buffer-reached : BufferReached inverse i l count bytes (bytes_of (length bytes) after) l'
-      unfolding on_bytes registers loaded
-      buffer-reached =
-          let b = (instance_of i).b in
-          let size : length (take b after) ≡ b = length-take-le b after (omega (arith, reached.full, (in_bytes i).at-most_256)) in
-          record {
-            bytes =
-                ap (bytes_of (length bytes)) (sym (take-append-drop b after))
-                ∙ bytes-front (length bytes) (take b after) (drop b after) (omega (arith, width))
-                ∙ ap₂ (λ (n : ℕ) (s : List ℕ). bytes_of n s) n
-                (sym (stored_loaded (instance_of i).taps (regular i).lawful (take b after) (word_bits 10 l')) ∙ ap stored registers-reached);
-            small = reached.small;
-            holds-L = ap (λ (r : Registers). r.L) registers-reached;
-          }
+    pub buffer-reached : BufferReached inverse i before.l.value count bytes (bytes_of (length bytes) after.bits) after.l.value
+    unfolding on_bytes registers loaded
+    buffer-reached =
+        let b = (instance_of i).b in
+        let size : length (take b after.bits) ≡ b = length-take-le b after.bits (omega (arith, reached.full, (in_bytes i).at-most_256)) in
+        record {
+          bytes =
+              ap (bytes_of (length bytes)) (sym (take-append-drop b after.bits))
+              ∙ bytes-front (length bytes) (take b after.bits) (drop b after.bits) (omega (arith, width))
+              ∙ ap₂ (λ (n : ℕ) (s : List ℕ). bytes_of n s) n
+              (sym (stored_loaded (instance_of i).taps (regular i).lawful (take b after.bits) (word_bits 10 after.l.value)) ∙ ap stored registers-reached);
+          small = after.l.small;
+          holds-L = ap (λ (r : Registers). r.L) registers-reached;
+        }
 
 -- ---- the buffer of a call
 

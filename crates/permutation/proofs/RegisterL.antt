@@ -1,11 +1,12 @@
 -- L as a number with bit i at weight 2 ^ i: one step, one step undone, and the number with bit 0 at weight 512.
-use Rattle.std.specs.Prelude.{◌≡◌, ℕ, suc, ◌+◌, ◌-◌, ◌*◌, ◌/◌, ◌%◌, ◌^◌, ◌<◌, List, [], ◌∷◌, ◌++◌, length, drop}
+use Rattle.std.specs.Prelude.{◌≡◌, ℕ, zero, suc, ◌+◌, ◌-◌, ◌*◌, ◌/◌, ◌%◌, ◌^◌, ◌<◌, ◌≤◌, List, [], ◌∷◌, ◌++◌, length, drop}
 use mathlib.Core.Path.{sym, ap, ap₂, ◌∙◌}
-use native.Mathlib.Nat.{mod-mod, le_refl}
+use native.Mathlib.Nat.{mod-mod, le_refl, add-zero, add-suc, pow-suc, add_assoc, add-mul, mul_assoc, mul_comm, div-eq_of_lt, lt_of_lt_of_le}
 use native.Mathlib.Omega.{arith}
 use lib.Bits.{bit_xor}
-use lib.Pow.{shr-shr}
+use lib.Pow.{pow_mono}
 use lib.Seq.{ext_get_or}
+use Rattle.std.specs.Int.{reverse_bits, reverse_bits_onto, w32}
 use Rattle.quark.specs.Bytes.{bit}
 use Rattle.quark.specs.Feedback.{p}
 use Rattle.quark.specs.Step.{shift, step_L}
@@ -13,8 +14,8 @@ use Rattle.quark.specs.Inverse.{unshift, gained, undo_step_L}
 use Rattle.quark.specs.Word.{word_bit, word_bits}
 use Rattle.quark.proofs.Bits.{Wide, parity_lt, bits_at, bits-tabulate}
 use Rattle.quark.proofs.Bytes.{length-tabulate, get_or-tabulate}
-use Rattle.quark.proofs.Weights.{weighed, weighed_next, weighed_cong, weighed_fits, weighed_bit, weighed_bits}
-use Rattle.quark.proofs.Word.{low_xor, word_bit-lt, word_bit-mod, length-word_bits, get_or-word_bits, cons-word_bits, move_word_bits}
+use Rattle.quark.proofs.Weights.{weighed, weighed_cong, weighed_fits, weighed_bit, weighed_bits}
+use Rattle.quark.proofs.Word.{low_xor, word_bit-lt, word_bit-zero, word_bit-suc, word_bit-mod, length-word_bits, get_or-word_bits, cons-word_bits, move_word_bits}
 use Rattle.permutation.specs.Steps.{bits_of_L, value_of_L}
 
 pub step-word_bits : (l : ℕ) → l < 1024 → word_bits 10 (bit_xor l (l / 8) % 2 * 512 + l / 2) ≡ step_L (word_bits 10 l)
@@ -42,14 +43,42 @@ undo_word_bits l h =
 
 -- ---- bit 0 with weight 512
 
--- one pass of the loop
-pub mirror_next : (i l rest value : ℕ) → rest ≡ l / 2 ^ i → value ≡ weighed (word_bit l) i
-    → (rest / 2 ≡ l / 2 ^ (i + 1)) × (value * 2 + rest % 2 ≡ weighed (word_bit l) (i + 1))
+-- one place further up
+twice : (a k : ℕ) → a * 2 ^ suc k ≡ a * 2 ^ k * 2
+twice a k = ap (λ (p : ℕ). a * p) (pow-suc 2 k) ∙ sym (mul_assoc a (2 ^ k) 2)
+
+beside : (a d k : ℕ) → (a * 2 + d) * 2 ^ k ≡ a * 2 ^ suc k + d * 2 ^ k
+beside a d k = add-mul (a * 2) d (2 ^ k) ∙ ap (λ (p : ℕ). p + d * 2 ^ k) (mul_assoc a 2 (2 ^ k) ∙ ap (λ (p : ℕ). a * p) (mul_comm 2 (2 ^ k) ∙ sym (pow-suc 2 k)))
+
+-- the first digit has the greatest weight
+weighed_first : (a : ℕ → ℕ) (k : ℕ) → weighed a (suc k) ≡ a 0 * 2 ^ k + weighed (λ i. a (suc i)) k
+unfolding weighed
+weighed_first a zero = omega arith
+weighed_first a (suc k) = omega (arith, weighed_first a k, twice (a 0) k)
+
+-- the lowest k bits after those of a number, in the other order
+reversed-onto : (k n a : ℕ) → reverse_bits_onto k n a ≡ a * 2 ^ k + weighed (word_bit n) k
+unfolding reverse_bits_onto weighed
+reversed-onto zero n a = omega arith
+reversed-onto (suc k) n a =
+    reversed-onto k (n / 2) (a * 2 + n % 2)
+    ∙ ap₂ (λ (p q : ℕ). p + q) (beside a (n % 2) k) (weighed_cong k (word_bit (n / 2)) (λ i. word_bit n (suc i)) (λ i h. sym (word_bit-suc n i)))
+    ∙ ap (λ (d : ℕ). a * 2 ^ suc k + d * 2 ^ k + weighed (λ i. word_bit n (suc i)) k) (sym (word_bit-zero n))
+    ∙ add_assoc (a * 2 ^ suc k) (word_bit n 0 * 2 ^ k) (weighed (λ i. word_bit n (suc i)) k)
+    ∙ ap (λ (w : ℕ). a * 2 ^ suc k + w) (sym (weighed_first (word_bit n) k))
+
+-- zeros after k digits
+weighed_zeros : (a : ℕ → ℕ) (k m : ℕ) → ((i : ℕ) → k ≤ i → a i ≡ 0) → weighed a (k + m) ≡ weighed a k * 2 ^ m
+unfolding weighed
+weighed_zeros a k zero z = rw add-zero (omega arith)
+weighed_zeros a k (suc m) z = rw add-suc (omega (arith, weighed_zeros a k m z, z (k + m) (omega arith), twice (weighed a k) m))
+
+-- a number below 1024 has no bit from the tenth on
+no_bit : (l i : ℕ) → l < 1024 → 10 ≤ i → word_bit l i ≡ 0
 unfolding word_bit
-mirror_next i l rest value er ev = (
-  ap (λ (x : ℕ). x / 2) er ∙ shr-shr l i 1,
-  cc (weighed_next (word_bit l) i),
-)
+no_bit l i h g =
+    let p : 2 ^ 10 ≤ 2 ^ i = pow_mono g in
+    ap (λ (q : ℕ). q % 2) (div-eq_of_lt (lt_of_lt_of_le h p))
 
 -- the value of ten bits, as the number that they make
 value-weighed : (l : List ℕ) → weighed (bit l) 10 ≡ value_of_L l
@@ -58,6 +87,14 @@ value-weighed l = omega arith
 
 pub mirror_all : (l : ℕ) → weighed (word_bit l) 10 ≡ value_of_L (word_bits 10 l)
 mirror_all l = weighed_cong 10 (word_bit l) (bit (word_bits 10 l)) (λ k h. sym (get_or-word_bits 10 l k h)) ∙ value-weighed (word_bits 10 l)
+
+-- ten bits reversed among 32, and moved down by 22
+pub mirrored-bits : (l : ℕ) → l < 1024 → reverse_bits w32 l / 4194304 ≡ value_of_L (word_bits 10 l)
+mirrored-bits l h =
+    let w = weighed (word_bit l) 10 in
+    let all : weighed (word_bit l) 32 ≡ w * 2 ^ 22 = weighed_zeros (word_bit l) 10 22 (λ i g. no_bit l i h g) in
+    let q : reverse_bits_onto 32 l 0 / 4194304 ≡ w = omega (arith, reversed-onto 32 l 0, all) in
+    q ∙ mirror_all l
 
 -- ---- there and back
 

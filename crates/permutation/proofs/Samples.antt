@@ -1,19 +1,19 @@
 -- The order of the lines of a call on a buffer, their edges, single steps, and stops, by computation. Where several lines hold, the number
 -- is the first's.
-use Rattle.std.specs.Prelude.{◌≡◌, ℕ, zero, suc, List, [], ◌∷◌, set, replicate}
+use Rattle.std.specs.Prelude.{◌≡◌, ℕ, zero, suc, List, [], ◌∷◌, set, replicate, Ok, Err}
 use mathlib.Core.Path.{refl}
 use native.Mathlib.Omega.{arith}
-use Rattle.refusals.specs.Lines.{first_line, line5}
-use Rattle.refusals.specs.Outcome.{accepted, refused, outcome, value_or}
+use Rattle.refusals.specs.declared.lines.Line.TheVariants.{StepsOutOfRange}
+use Rattle.refusals.specs.Lines.{first_line, line5, number}
+use Rattle.refusals.specs.Outcome.{accepted, refused, outcome, outcome_of, value_or}
 use Rattle.quark.specs.Bytes.{tabulate, bit_at, bits_of, byte_at, bytes_of}
 use Rattle.quark.specs.Feedback.{f, g, h, p, feedback, exchange, sum_at}
 use Rattle.quark.specs.Step.{shift, step_L, step, steps, steps_L, loaded, stored, rounds}
 use Rattle.quark.specs.Inverse.{unshift, gained, undo_step_L, undo_step, undo_steps}
 use Rattle.quark.specs.Instance.{U, D, S, instance_of, is_instance, is_width, state_bytes}
-use Rattle.permutation.specs.declared.Stepped.TheVariants.{L, Refused}
 use Rattle.permutation.specs.Lines.{line1, line4, most_steps, line20}
 use Rattle.permutation.specs.Permute.{permute_number, on_bytes}
-use Rattle.permutation.specs.Steps.{bits_of_L, value_of_L, registers_after, registers_before, steps_number, stepped_outcome, steps_outcome, steps_back_outcome, steps_bytes}
+use Rattle.permutation.specs.Steps.{bits_of_L, value_of_L, registers_after, registers_before, steps_number, steps_outcome, steps_back_outcome, steps_bytes}
 use Rattle.permutation.specs.NamedClocks.{AreBytes, Stop}
 
 pub order :
@@ -98,10 +98,10 @@ pub steps-answers :
     × (steps_back_outcome 1 8 1023 12 full ≡ refused 20 0) × (steps_bytes registers_before 1 8 1023 12 full ≡ full)
     × (steps_back_outcome 1 1 1023 1 full ≡ accepted tt)
     -- what an answer stands for
-    × (stepped_outcome (L 1029) ≡ accepted 1029) × (stepped_outcome (Refused (record { number = 20; place = 3 })) ≡ refused 20 3)
+    × (outcome_of {A = ℕ} (Ok 1029) ≡ accepted 1029) × (outcome_of {A = ℕ} (Err (record { line = StepsOutOfRange; place = 3 })) ≡ refused 20 3)
     -- what a lent number holds after a call
     × (◌≡◌ {A = ℕ} (value_or (accepted 5) 7) 5) × (◌≡◌ {A = ℕ} (value_or (refused 20 0) 7) 7)
-unfolding steps_outcome steps_back_outcome stepped_outcome value_or steps_bytes outcome steps_number first_line line1 line4 most_steps line20 line5 is_instance is_width state_bytes instance_of rounds U
+unfolding steps_outcome steps_back_outcome outcome_of number value_or steps_bytes outcome steps_number first_line line1 line4 most_steps line20 line5 is_instance is_width state_bytes instance_of rounds U
 steps-answers = (refl, refl, refl, refl, refl, refl, refl, refl, refl)
 
 -- ---- what the statements of `NamedClocks` ask for can be met

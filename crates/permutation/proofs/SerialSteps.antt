@@ -1,16 +1,18 @@
 -- The registers X and Y in the first b of 256 cells: the parts that are lent, and what a step, a step undone and many of either leave.
 use Rattle.std.specs.Prelude.{◌≡◌, ℕ, ◌+◌, ◌-◌, ◌*◌, ◌%◌, ◌<◌, ◌≤◌, List, ◌++◌, length, get_or, take, drop, set}
 use mathlib.Core.List.{append_assoc}
-use mathlib.Core.Path.{refl, sym, ap, ap₂, ◌∙◌}
-use native.Mathlib.Nat.{add-zero, sub-zero}
+use mathlib.Core.Path.{refl, sym, ap, ap₂, ◌∙◌, subst}
+use native.Mathlib.Nat.{add-zero}
 use native.Mathlib.Omega.{arith}
+use lib.Bits.{bit_xor}
+use Rattle.std.specs.List.{copy_within}
 use lib.ListN.{length-append, length-take, length-drop, take-append-drop, get_or-append}
-use lib.Seq.{take-take, take_at, drop_at, get_or-append-add}
+use lib.Seq.{take_at, drop_at, get_or-append-add}
 use Rattle.quark.specs.Bytes.{bit}
 use Rattle.quark.specs.Feedback.{Taps, feedback, f, g, h}
 use Rattle.quark.specs.Step.{Registers, shift, step_L, step, loaded}
 use Rattle.quark.specs.Inverse.{unshift, gained, undo_step_L, undo_step}
-use Rattle.quark.specs.Instance.{Instance, instance_of}
+use Rattle.quark.specs.Instance.{Instance}
 use Rattle.quark.specs.Word.{word_bits}
 use Rattle.quark.specs.Together.{gain_X, gain_Y}
 use Rattle.quark.proofs.Bits.{Bits, more, Wide, parity_lt, bits-append, bits-take, bits-drop, bits_at, bits_of}
@@ -18,8 +20,17 @@ use Rattle.quark.proofs.Word.{wide_word_bits}
 use Rattle.quark.proofs.Together.{registers-path}
 use Rattle.quark.proofs.Inverse.{Sized, sized_loaded, sized_step, sized_undo_step}
 use Rattle.quark.proofs.Instance.{Regular, regular, in_bytes}
-use Rattle.permutation.specs.leaf.Core.{Cells, registers, CellsHold}
-use Rattle.permutation.proofs.Cells.{down, up, drop-take, down_two, up_two, set-fronts}
+use Rattle.words.specs.Instances.{named}
+use Rattle.words.specs.declared.instances.Instance as code
+use Rattle.permutation.specs.declared.cells.RegisterCells.{RegisterCells}
+use Rattle.permutation.specs.declared.taps.Taps as code-taps
+use Rattle.permutation.specs.leaf.Cells.{Cells}
+use Rattle.permutation.specs.leaf.Core.{registers, held}
+use Rattle.permutation.specs.leaf.Serial.{Fed}
+use Rattle.permutation.specs.leaf.Taps.{AreTaps}
+use Rattle.permutation.proofs.Instances.{by_name}
+use Rattle.permutation.proofs.MovedCells.{down, up, copied_down, copied-up, down_two, up_two, set-fronts}
+use Rattle.permutation.proofs.SingleBits.{single, exact, sum, ◌⊕◌}
 
 -- the bits of f, g and h are single bits, and so is the bit that a register gained
 pub f-small : (T : Taps) (X : ℕ → ℕ) → f T X < 2
@@ -55,7 +66,7 @@ split I cells l =
     ∙ ap (λ (s : List ℕ). s ++ drop I.b cells) (take-append-drop I.taps.half (take I.b cells))
     ∙ take-append-drop I.b cells
 
--- 256 single bits, of which the first b hold X and Y
+-- 256 single bits, of which the first b hold X and Y of an instance
 pub record SerialCells (I : Instance) (cells : List ℕ) (l half : ℕ) : Type 0 where
   pub regular : Regular I
   pub fits : I.b ≤ 256
@@ -63,34 +74,35 @@ pub record SerialCells (I : Instance) (cells : List ℕ) (l half : ℕ) : Type 0
   pub single : Cells cells
   pub is_half : half ≡ I.taps.half
 
-pub serial_cells : (i : ℕ) (cells : List ℕ) (l half : ℕ) → half ≡ (instance_of i).taps.half → length cells ≡ 256 → Cells cells
-    → SerialCells (instance_of i) cells l half
-serial_cells i cells l half e full single = record {
-  regular = regular i;
-  fits = (in_bytes i).at-most_256;
+pub serial_cells : (n : code.Instance) (c : RegisterCells) (t : code-taps.Taps) → AreTaps (named n).taps t → length c.bits ≡ 256
+    → SerialCells (named n) c.bits c.l.value t.half
+serial_cells n c t e full = record {
+  regular = by_name Regular regular n;
+  fits = by_name (λ I. I.b ≤ 256) (λ i. (in_bytes i).at-most_256) n;
   full = full;
-  single = single;
-  is_half = e;
+  single = c.single;
+  is_half = e.half;
 }
 
-module _ {I : Instance} {cells : List ℕ} {l half : ℕ} (given : SerialCells I cells l half) where
-  -- the parts of the cells that the code lends as X and as Y
-  pub x_part : take (half - 0) cells ≡ (registers I cells l).X
-  unfolding registers loaded
-  x_part =
-      ap (λ (n : ℕ). take n cells) (sub-zero half ∙ given.is_half)
-      ∙ sym (take-take I.taps.half I.b cells (omega (arith, given.regular.two_halves)))
+-- cells that hold the registers s, with the others after them as they were
+pub record Laid (I : Instance) (s : Registers) (before after : List ℕ) (l : ℕ) : Type 0 where
+  pub holds : registers I after l ≡ s
+  pub rest : drop I.b after ≡ drop I.b before
+  pub full : length after ≡ 256
+  pub cells : Cells after
 
-  pub y_part : take (half + half - half) (drop half cells) ≡ (registers I cells l).Y
+module _ {I : Instance} {cells : List ℕ} {l half : ℕ} (given : SerialCells I cells l half) where
+  pub both_halves : 2 * half ≡ I.b
+  both_halves = omega (arith, given.is_half, given.regular.two_halves)
+
+  -- the parts of the cells that the code lends as X and as Y
+  pub x_part : take half (take (2 * half) cells) ≡ (registers I cells l).X
   unfolding registers loaded
-  y_part =
-      let n : half + half - half ≡ half = omega arith in
-      let b : I.taps.half + I.taps.half ≡ I.b = omega (arith, given.regular.two_halves) in
-      let p : I.taps.half ≤ length cells = omega (arith, given.full, given.fits, given.regular.two_halves) in
-      ap (λ (k : ℕ). take k (drop half cells)) n
-      ∙ ap (λ (k : ℕ). take k (drop k cells)) given.is_half
-      ∙ sym (drop-take I.taps.half I.taps.half cells p)
-      ∙ ap (λ (k : ℕ). drop I.taps.half (take k cells)) b
+  x_part = ap₂ (λ (h b : ℕ). take h (take b cells)) given.is_half both_halves
+
+  pub y_part : drop half (take (2 * half) cells) ≡ (registers I cells l).Y
+  unfolding registers loaded
+  y_part = ap₂ (λ (h b : ℕ). drop h (take b cells)) given.is_half both_halves
 
   pub sized : Sized I.taps (registers I cells l)
   unfolding registers
@@ -139,10 +151,10 @@ module _ {I : Instance} {cells : List ℕ} {l half : ℕ} (given : SerialCells I
 
   -- ---- a step, and a step undone
 
-  module _ (l' : ℕ) (small : l' < 1024) where
+  module _ (l' : ℕ) where
     -- cells that hold other registers, with the same others after them
     pub cells-hold : (s : Registers) → Sized I.taps s → word_bits 10 l' ≡ s.L → {after : List ℕ} → after ≡ s.X ++ (s.Y ++ drop I.b cells)
-        → CellsHold I s cells after l'
+        → Laid I s cells after l'
     unfolding registers loaded
     cells-hold s z el {after} e =
         let b = I.b in
@@ -157,7 +169,6 @@ module _ {I : Instance} {cells : List ℕ} {l half : ℕ} (given : SerialCells I
           holds = registers-path (ap (take I.taps.half) front ∙ take_at s.X s.Y I.taps.half nX)
               (ap (drop I.taps.half) front ∙ drop_at s.X s.Y I.taps.half nX) el;
           rest = ap (drop b) grouped ∙ drop_at (s.X ++ s.Y) rest b n;
-          small = small;
           full = ap length grouped ∙ simp (length-append, length-drop) (omega (arith, given.full, given.fits));
           cells = λ i. rw e (bits_at (bits-append z.wide_X.1 (bits-append z.wide_Y.1 (bits-drop b (bits_of cells given.single)))) i);
         }
@@ -166,7 +177,7 @@ module _ {I : Instance} {cells : List ℕ} {l half : ℕ} (given : SerialCells I
         → x ≡ gain_X I.taps (bit (registers I cells l).X) (bit (registers I cells l).Y) (bit (registers I cells l).L)
         → y ≡ gain_Y I.taps (bit (registers I cells l).X) (bit (registers I cells l).Y) (bit (registers I cells l).L)
         → word_bits 10 l' ≡ step_L (registers I cells l).L
-        → CellsHold I (step I.taps (registers I cells l)) cells (set (set moved (half - 1) x) (half + half - 1) y) l'
+        → Laid I (step I.taps (registers I cells l)) cells (set (set moved (half - 1) x) (half + half - 1) y) l'
     unfolding step gain_X gain_Y
     after-step x y moved em ex ey el =
         let s = registers I cells l in
@@ -185,7 +196,7 @@ module _ {I : Instance} {cells : List ℕ} {l half : ℕ} (given : SerialCells I
           ap (λ (c : List ℕ). set (set c 0 0) half 0) (em ∙ ap (up (half + half)) (sym (split I cells l)))
           ∙ up_two (registers I cells l).X (registers I cells l).Y (drop I.b cells) half positive nx ny
 
-      pub after-zeros : CellsHold I zeroed cells (set (set moved 0 0) half 0) l'
+      pub after-zeros : Laid I zeroed cells (set (set moved 0 0) half 0) l'
       after-zeros =
           let p = given.regular.lawful.some_half in
           cells-hold zeroed (record { wide_X = wide_zero p sized.wide_X; wide_Y = wide_zero p sized.wide_Y; wide_L = wide_word_bits 10 l' }) refl zeroed_cells
@@ -194,7 +205,7 @@ module _ {I : Instance} {cells : List ℕ} {l half : ℕ} (given : SerialCells I
           → y0 ≡ (gained (registers I cells l).Y + g I.taps (bit zeroed.Y) + h I.taps (bit zeroed.X) (bit zeroed.Y) (bit zeroed.L)) % 2
           → x0 ≡ (gained (registers I cells l).X + y0 + f I.taps (bit zeroed.X) + h I.taps (bit zeroed.X) (bit zeroed.Y) (bit zeroed.L)) % 2
           → word_bits 10 l' ≡ undo_step_L (registers I cells l).L
-          → CellsHold I (undo_step I.taps (registers I cells l)) cells (set (set (set (set moved 0 0) half 0) half y0) 0 x0) l'
+          → Laid I (undo_step I.taps (registers I cells l)) cells (set (set (set (set moved 0 0) half 0) half y0) 0 x0) l'
       unfolding undo_step
       after-undo x0 y0 ey ex el =
           let s = registers I cells l in
@@ -203,19 +214,51 @@ module _ {I : Instance} {cells : List ℕ} {l half : ℕ} (given : SerialCells I
           ∙ set-fronts s.X s.Y (drop I.b cells) half 0 0 x0 y0 positive nx
           ∙ ap₂ (λ (v w : ℕ). unshift v s.X ++ (unshift w s.Y ++ drop I.b cells)) (cc (ex, ey, el)) (cc (ey, el)))
 
--- ---- many steps
+-- ---- a step of the code, and a step undone: the cells copied within by one, with the new bits
 
-module _ (I : Instance) where
-  pub hold_start : (cells : List ℕ) (l : ℕ) → l < 1024 → length cells ≡ 256 → Cells cells → CellsHold I (registers I cells l) cells cells l
-  hold_start cells l small full single = record { holds = refl; rest = refl; small = small; full = full; cells = single }
+module _ (n : code.Instance) (c : RegisterCells) (t : code-taps.Taps) (e : AreTaps (named n).taps t) (full : length c.bits ≡ 256) (moved : List ℕ) (l' : ℕ) where
+  R : SerialCells (named n) c.bits c.l.value t.half
+  R = serial_cells n c t e full
 
-  -- one more step
-  pub hold_next : {s : Registers} {start cells after : List ℕ} {l l' : ℕ} (move : Registers → Registers) → CellsHold I s start cells l
-      → CellsHold I (move (registers I cells l)) cells after l' → CellsHold I (move s) start after l'
-  hold_next move a b = record {
-    holds = b.holds ∙ ap move a.holds;
-    rest = b.rest ∙ a.rest;
-    small = b.small;
-    full = b.full;
-    cells = b.cells;
-  }
+  abbrev T : Taps
+  T = (named n).taps
+
+  twice : 2 * t.half ≡ t.half + t.half
+  twice = omega arith
+
+  pub stepped : (f-bit g-bit h-bit : ℕ) → Fed T (held (named n) c) f-bit g-bit h-bit → moved ≡ copy_within c.bits 1 (2 * t.half) 0
+      → word_bits 10 l' ≡ step_L (word_bits 10 c.l.value)
+      → Laid (named n) (step T (held (named n) c)) c.bits
+      (set (set moved (t.half - 1) (bit_xor (bit_xor (get_or c.bits t.half 0) f-bit) h-bit)) (2 * t.half - 1) (bit_xor g-bit h-bit)) l'
+  unfolding registers loaded gain_X gain_Y
+  stepped f-bit g-bit h-bit fed em el =
+      let y0 = exact (y_first R) (bits_at (sized R).wide_Y.1 0) in
+      let f-sum = exact fed.is_F (f-small T _) in
+      let g-sum = exact fed.is_G (g-small T _) in
+      let h-sum = exact fed.is_H (h-small T _ _ _) in
+      let x = bit_xor (bit_xor (get_or c.bits t.half 0) f-bit) h-bit in
+      let y = bit_xor g-bit h-bit in
+      let down-one : moved ≡ down (t.half + t.half) c.bits = em ∙ copied_down c.bits (2 * t.half) ∙ ap (λ (b : ℕ). down b c.bits) twice in
+      subst (λ (b : ℕ). Laid (named n) (step T (registers (named n) c.bits c.l.value)) c.bits (set (set moved (t.half - 1) x) (b - 1) y) l') (sym twice)
+      (after-step R l' x y moved down-one (sum y0 ⊕ f-sum ⊕ h-sum).same (sum g-sum ⊕ h-sum).same el)
+
+  module _ (em : moved ≡ copy_within c.bits 0 (2 * t.half - 1) 1) where
+    up-one : moved ≡ up (t.half + t.half) c.bits
+    up-one = em ∙ copied-up c.bits (2 * t.half) (omega (arith, e.half, R.regular.lawful.some_half)) ∙ ap (λ (b : ℕ). up b c.bits) twice
+
+    pub unstepped : (f-bit g-bit h-bit : ℕ) → Fed T (registers (named n) (set (set moved 0 0) t.half 0) l') f-bit g-bit h-bit
+        → word_bits 10 l' ≡ undo_step_L (word_bits 10 c.l.value)
+        → let y0 = bit_xor (bit_xor (get_or c.bits (2 * t.half - 1) 0) g-bit) h-bit in
+        let x0 = bit_xor (bit_xor (bit_xor (get_or c.bits (t.half - 1) 0) y0) f-bit) h-bit in
+        Laid (named n) (undo_step T (held (named n) c)) c.bits (set (set (set (set moved 0 0) t.half 0) t.half y0) 0 x0) l'
+    unfolding registers loaded
+    unstepped f-bit g-bit h-bit given el =
+        let zeros = after-zeros R l' moved up-one in
+        let fed = rw zeros.holds at given in
+        let x-last = exact (x_gained R) (gained-small (sized R).wide_X.1) in
+        let y-last = exact (ap (λ (b : ℕ). get_or c.bits (b - 1) 0) twice ∙ y_gained R) (gained-small (sized R).wide_Y.1) in
+        let f-sum = exact fed.is_F (f-small T _) in
+        let g-sum = exact fed.is_G (g-small T _) in
+        let h-sum = exact fed.is_H (h-small T _ _ _) in
+        let y0 = sum y-last ⊕ g-sum ⊕ h-sum in
+        after-undo R l' moved up-one _ _ y0.same (sum x-last ⊕ single y0.small ⊕ f-sum ⊕ h-sum).same el

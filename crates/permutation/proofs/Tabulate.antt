@@ -1,8 +1,7 @@
 -- Laws of `tabulate`, for loops that store one value in each pass.
-use Rattle.std.specs.Prelude.{◌≡◌, ℕ, zero, suc, ◌+◌, ◌-◌, ◌<◌, ◌≤◌, List, [], ◌∷◌, ◌++◌, length, get_or, take, drop, set, replicate}
+use Rattle.std.specs.Prelude.{◌≡◌, ℕ, suc, ◌+◌, ◌<◌, ◌≤◌, List, [], ◌∷◌, ◌++◌, length, get_or, take, drop, set}
 use mathlib.Core.Path.{refl, sym, ap, ◌∙◌}
 use mathlib.Core.List.{append_assoc, append-nil}
-use native.Mathlib.Nat.{not-suc-le-zero, le_of_suc-le-suc, sub-zero, suc-sub-suc}
 use native.Mathlib.Numerals.{add-one}
 use native.Mathlib.Omega.{arith}
 use lib.ListN.{drop_of_length-le}
@@ -27,11 +26,6 @@ pub tabulate-full : (F : ℕ → ℕ) (l : List ℕ) (k n : ℕ) → k ≡ n →
 tabulate-full F l k n p q =
     let w : length l ≤ k = omega arith in
     ap (λ (t : List ℕ). tabulate k F ++ t) (drop_of_length-le l w) ∙ append-nil (tabulate k F) ∙ ap (λ (m : ℕ). tabulate m F) p
-
-pub drop-replicate : (n m v : ℕ) → n ≤ m → drop n (replicate m v) ≡ replicate (m - n) v
-drop-replicate zero m v p = ap (λ (k : ℕ). replicate k v) (sym (sub-zero m))
-drop-replicate (suc n) zero v p = absurd (not-suc-le-zero p)
-drop-replicate (suc n) (suc m) v p = drop-replicate n m v (le_of_suc-le-suc p) ∙ ap (λ (k : ℕ). replicate k v) (sym (suc-sub-suc m n))
 
 -- f's sum over the bits at the taps is f's sum over the taps
 pub feedback-bits_at : (taps : List ℕ) (X : ℕ → ℕ) → feedback indices (bit (tabulate 13 (λ k. X (get_or taps k 0)))) ≡ feedback taps X

@@ -1,21 +1,15 @@
--- The widths that the word form takes, and the sizes of the instances.
-use Rattle.std.specs.Prelude.{◌≡◌, ℕ, ◌%◌, ◌≤◌, true}
+-- The widths that the word form takes.
+use Rattle.std.specs.Prelude.{◌≡◌, ℕ, ◌%◌, true}
 use mathlib.Core.Logic.{⊎_elim}
 use mathlib.Core.Path.{refl, ap, ap₂, ◌∙◌}
 use native.Mathlib.Decide.{ℕ_discrete}
 use native.Mathlib.Nat.{mod-one}
 use native.Mathlib.Omega.{arith}
-use lib.Dec.{lit≤}
 use Rattle.quark.specs.Step.{rounds}
 use Rattle.quark.specs.Instance.{U, D, S, instance_of, is_width}
 use Rattle.quark.proofs.Instance.{of_each}
 use Rattle.quark.proofs.Taps.{Reach, reach_less, lawful_U, lawful_D, lawful_S}
 use Rattle.words.proofs.Widths.{several}
-
--- a half fills the low word of a register
-pub word_filled : (i : ℕ) → 64 ≤ (instance_of i).taps.half
-unfolding U D S
-word_filled = of_each (λ I. 64 ≤ I.taps.half) (lit≤ tt) (lit≤ tt) (lit≤ tt)
 
 -- a width of an instance, added to its highest tap, is at most the half
 reach_8 : (i : ℕ) → Reach (instance_of i).taps 8

@@ -2,14 +2,12 @@
 -- and then Y, after the steps or from before them; refused, it is untouched.
 use Rattle.std.specs.Prelude.{ℕ, ◌+◌, ◌-◌, ◌*◌, ◌/◌, ◌%◌, ◌^◌, cond, List, [], ◌∷◌, length, ◌==◌}
 use Rattle.refusals.specs.Lines.{first_line, line5}
-use Rattle.refusals.specs.Outcome.{Outcome, accepted, refused, outcome}
+use Rattle.refusals.specs.Outcome.{Outcome, outcome}
 use Rattle.quark.specs.Bytes.{bit, tabulate, bits_of}
 use Rattle.quark.specs.Feedback.{Taps}
 use Rattle.quark.specs.Step.{Registers, steps, steps_L, loaded, stored}
 use Rattle.quark.specs.Inverse.{undo_steps}
 use Rattle.quark.specs.Instance.{instance_of, state_bytes}
-use Rattle.permutation.specs.declared.Stepped.{Stepped}
-use Rattle.permutation.specs.declared.Stepped.TheVariants.{L, Refused}
 use Rattle.permutation.specs.Lines.{line1, line4, line20}
 use Rattle.permutation.specs.Permute.{on_bytes}
 
@@ -40,11 +38,6 @@ registers_before l count T s = undo_steps T count (loaded T s (steps_L count (bi
 unfoldable pub steps_number : (i w l count length : ℕ) → ℕ
 steps_number i w l count length =
     first_line ((line1 i, 1) ∷ (line4 i w, 4) ∷ (line20 i w l count, 20) ∷ (line5 length (state_bytes i), 5) ∷ [])
-
--- what an answer of `steps` stands for
-unfoldable pub stepped_outcome : Stepped → Outcome ℕ
-stepped_outcome (L l) = accepted l
-stepped_outcome (Refused r) = refused r.number r.place
 
 -- accepted, `steps` answers L after the steps
 unfoldable pub steps_outcome : (i w l count : ℕ) → List ℕ → Outcome ℕ

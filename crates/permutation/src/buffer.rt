@@ -1,84 +1,74 @@
 // A buffer through the stepping cores, by step width, and back. The cores take L before the steps, a number with bit i at weight 2 to the i,
-// and a step count; P and its inverse pass all ones and 4b. They assume that every cell is 0 or 1.
+// and a step count; P and its inverse pass all ones and 4b. The direction of the steps is a type.
 ghost use Rattle.std.specs.Prelude.{◌≡◌, length};
 ghost use Rattle.refusals.specs.Outcome.{outcome_of};
 ghost use Rattle.quark.specs.Step.{rounds};
 ghost use Rattle.quark.specs.Instance.{instance_of, state_bytes};
-ghost use Rattle.permutation.specs.leaf.Core.{Allowed, Steppable, CellsReached, BufferReached, permuted};
+ghost use Rattle.words.specs.Instances.{named};
+ghost use Rattle.permutation.specs.leaf.Core.{CellsReached, BufferReached, permuted};
 ghost use Rattle.permutation.specs.Permute.{permute_outcome, overwritten};
 
-use crate::{bytes, lines, serial, several};
-use refusals::{Answer, Refusal};
+use crate::cells::{RegisterCells, Steps};
+use crate::direction::Direction;
+use crate::register_l::RegisterL;
+use crate::{bytes, lines, several};
+use refusals::Refusal;
+use words::instances::Instance;
 
 // L at the start of P.
 const ALL_ONES: u32 = 1023;
 
 // The steps of P: 4b.
-pub fn rounds(instance: u32) -> u32
-    ensures { result ≡ rounds (instance_of instance).taps }
+pub fn rounds(instance: Instance) -> u32
+    ensures { result ≡ rounds (named instance).taps }
 {
-    if instance == 1 {
-        return 544;
+    match instance {
+        Instance::U => 544,
+        Instance::D => 704,
+        Instance::S => 1024,
     }
-    if instance == 2 {
-        return 704;
-    }
-    1024
 }
 
-// `count` steps on the cells, or `count` steps undone, at a step width of the instance's. L begins at l before the first of them. Returns L
-// after the steps, or before them.
-fn run_or_undo(
-    inverse: bool,
-    bits: &mut [u8; 256],
-    instance: u32,
-    width: u32,
-    l: u32,
-    count: u32,
-) -> u32
-    requires { Steppable instance width l count bits.old }
-    ensures { CellsReached inverse (instance_of instance) l count bits.old bits.new result }
+// The steps on the registers in a direction. L begins at its value before the first of them.
+// A width is a number of the call, so the form is chosen here, once.
+fn run<D: Direction>(state: &mut RegisterCells, steps: Steps)
+    ensures { CellsReached D.inverse (instance_of steps.instance) steps.count state.old state.new }
 {
-    if width != 1 {
-        return several::run_or_undo(inverse, bits, instance, width, l, count);
+    if steps.width == 1 {
+        D::one_by_one(state, Instance::from(steps.instance), steps.count);
+    } else {
+        several::run::<D>(state, steps);
     }
-    if inverse {
-        return serial::undo(bits, instance, l, count);
-    }
-    serial::run(bits, instance, l, count)
 }
 
-// Overwrites the bits of an instance's state with those after `count` steps, or from before them. L begins at l before the first of them.
+// Overwrites the bits of an instance's state with those after the steps, or from before them. L begins at steps.l before the first of them.
 // Returns L after the steps, or before them.
-pub fn overwrite(
-    inverse: bool,
-    instance: u32,
-    width: u32,
-    l: u32,
-    count: u32,
-    buffer: &mut [u8],
-) -> u32
-    requires allowed { Allowed instance width l count }
-    requires buffer_len { length buffer.old ≡ state_bytes instance }
-    ensures { BufferReached inverse instance l count buffer.old buffer.new result }
+pub fn overwrite<D: Direction>(steps: Steps, buffer: &mut [u8]) -> u32
+    requires { length buffer.old ≡ state_bytes steps.instance }
+    ensures { BufferReached D.inverse steps.instance steps.l steps.count buffer.old buffer.new result }
 {
-    let mut bits = [0u8; 256];
-    bytes::load(buffer, &mut bits);
-    let reached = run_or_undo(inverse, &mut bits, instance, width, l, count);
-    bytes::store(&bits, buffer);
-    reached
+    let mut state = RegisterCells {
+        bits: bytes::load(buffer),
+        l: RegisterL { value: steps.l },
+    };
+    run::<D>(&mut state, steps);
+    bytes::store(&state.bits, buffer);
+    state.l.value
 }
 
 // Overwrites the bits of an instance's state with P of them, or with P's inverse.
-pub fn permute_or_invert(inverse: bool, instance: u32, width: u32, buffer: &mut [u8]) -> Answer
+pub fn permute<D: Direction>(instance: u32, width: u32, buffer: &mut [u8]) -> Result<(), Refusal>
     ensures answer { outcome_of result ≡ permute_outcome instance width buffer.old }
-    ensures bytes { buffer.new ≡ overwritten (permuted inverse) instance width buffer.old }
+    ensures bytes { buffer.new ≡ overwritten (permuted D.inverse) instance width buffer.old }
 {
-    let number = lines::buffer_line(instance, width, buffer.len());
-    if number != 0 {
-        return Answer::Refused(Refusal { number, place: 0 });
-    }
-    let count = rounds(instance);
-    overwrite(inverse, instance, width, ALL_ONES, count, buffer);
-    Answer::Accepted
+    lines::buffer_line(instance, width, buffer.len())?;
+    let count = rounds(Instance::from(instance));
+    let steps = Steps {
+        instance,
+        width,
+        l: ALL_ONES,
+        count,
+    };
+    overwrite::<D>(steps, buffer);
+    Ok(())
 }

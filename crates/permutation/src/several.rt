@@ -1,119 +1,81 @@
-// Several steps together on the 256 cells of single bits (document 01, "Steps, permutation and inverse"): X and Y are taken from them as
-// words, stepped by the crate `words`, and put back. A half is 68, 88 or 128 bits, so that lo is always full.
-ghost use Rattle.std.specs.Prelude.{◌≡◌, ◌+◌, ◌%◌, ◌^◌, ◌<◌, ◌≤◌, length, take, drop, if◌then◌else◌, ◌≢◌};
+// Several steps together (document 01, "Steps, permutation and inverse"): X and Y are taken from the cells as words, stepped by the crate
+// `words`, and put back. A half is 68, 88 or 128 bits, so that lo is always full.
+ghost use Rattle.std.specs.Prelude.{◌≡◌, ◌^◌, ◌<◌, ◌≤◌, length, ◌≢◌};
 ghost use Rattle.quark.specs.Instance.{instance_of};
 ghost use Rattle.quark.specs.Word.{word_bits};
-ghost use Rattle.words.specs.Words.{value, fits};
-ghost use Rattle.permutation.specs.leaf.Core.{Cells, Steppable, CellsReached};
-ghost use Rattle.permutation.specs.leaf.Several.{ran_or_undone_words, written};
+ghost use Rattle.words.specs.Words.{value};
+ghost use Rattle.permutation.specs.leaf.Cells.{Cells};
+ghost use Rattle.permutation.specs.leaf.Core.{CellsReached};
 
-use crate::taps::half_of;
+use crate::cells::{RegisterCells, Steps};
+use crate::direction::Direction;
+use crate::register_l::RegisterL;
+use crate::taps::Taps;
+use words::instances::Instance;
 use words::{Register, RegisterWords};
 
-// A cell as a word.
-fn wide(cell: u8) -> u64
-    ensures { result ≡ cell }
+// Cells as a number, lowest bit first.
+// No method of the library has bits as cells; `bytes::byte_at` has the first bit highest.
+fn read_word(cells: &[u8]) -> u64
+    requires { (length cells.now ≤ 64) × Cells cells.now }
+    ensures { (result < 2 ^ length cells.now) × (word_bits (length cells.now) result ≡ cells.now) }
 {
-    cell as u64
+    cells
+        .iter()
+        .rev()
+        .fold(0, |word, cell| word << 1 | u64::from(*cell))
 }
 
-// The lowest bit of a word as a cell.
-fn lowest(word: u64) -> u8
-    ensures { result ≡ word % 2 }
+// Writes the lowest bits of a number into cells, lowest first.
+fn write_word(word: u64, cells: &mut [u8])
+    requires { length cells.old ≤ 64 }
+    ensures { cells.new ≡ word_bits (length cells.old) word }
 {
-    (word % 2) as u8
-}
-
-// The n cells from `from` on as a number, lowest bit first.
-fn read_word(bits: &[u8; 256], from: usize, n: usize) -> u64
-    requires { (from + n ≤ 256) × (n ≤ 64) × (length bits.now ≡ 256) × Cells bits.now }
-    ensures { (result < 2 ^ n) × (word_bits n result ≡ take n (drop from bits.now)) }
-{
-    let mut word = 0u64;
-    let mut i = n;
-    while i > 0 {
-        i -= 1;
-        word = word * 2 + wide(bits[from + i]);
-    }
-    word
-}
-
-// Writes n bits of a number into the cells from `from` on, lowest first.
-fn write_word(word: u64, n: usize, bits: &mut [u8; 256], from: usize)
-    requires { (from + n ≤ 256) × (n ≤ 64) × (length bits.old ≡ 256) }
-    ensures { bits.new ≡ written bits.old from n word }
-{
-    let mut rest = word;
-    let mut i = 0;
-    while i < n {
-        bits[from + i] = lowest(rest);
-        rest = rest / 2;
-        i += 1;
+    for (i, cell) in cells.iter_mut().enumerate() {
+        *cell = ((word >> i) % 2) as u8;
     }
 }
 
-// The register in the cells from `from` on.
-fn load(bits: &[u8; 256], from: usize, half: usize) -> Register
-    requires { (from + half ≤ 256) × (64 ≤ half) × (half ≤ 128) × (length bits.now ≡ 256) × Cells bits.now }
-    ensures { (value result < 2 ^ half) × (word_bits half (value result) ≡ take half (drop from bits.now)) }
+// The register in the cells.
+fn load(cells: &[u8]) -> Register
+    requires { (64 ≤ length cells.now) × (length cells.now ≤ 128) × Cells cells.now }
+    ensures { (value result < 2 ^ length cells.now) × (word_bits (length cells.now) (value result) ≡ cells.now) }
 {
+    let (lo, hi) = cells.split_at(64);
     Register {
-        hi: read_word(bits, from + 64, half - 64),
-        lo: read_word(bits, from, 64),
+        hi: read_word(hi),
+        lo: read_word(lo),
     }
 }
 
-// Writes the bits of a register into the cells from `from` on.
-fn save(r: Register, bits: &mut [u8; 256], from: usize, half: usize)
-    requires { (from + half ≤ 256) × (64 ≤ half) × (half ≤ 128) × (length bits.old ≡ 256) }
-    ensures { bits.new ≡ written bits.old from half (value r) }
+// Writes the bits of a register into the cells.
+fn save(r: Register, cells: &mut [u8])
+    requires { (64 ≤ length cells.old) × (length cells.old ≤ 128) }
+    ensures { cells.new ≡ word_bits (length cells.old) (value r) }
 {
-    write_word(r.lo, 64, bits, from);
-    write_word(r.hi, half - 64, bits, from + 64);
+    let (lo, hi) = cells.split_at_mut(64);
+    write_word(r.lo, lo);
+    write_word(r.hi, hi);
 }
 
-// The words `count` steps on, or `count` steps before, `width` at a time. For the steps undone state.l is what L was before them.
-fn run_or_undo_words(
-    inverse: bool,
-    instance: u32,
-    width: u32,
-    count: u32,
-    state: RegisterWords,
-) -> RegisterWords
-    ensures { result ≡ (if fits instance width count state then ran_or_undone_words inverse (instance_of instance).taps count state else state) }
+// The steps on the registers in a direction, steps.width at a time. L begins at its value before the first of them.
+pub fn run<D: Direction>(state: &mut RegisterCells, steps: Steps)
+    requires { steps.width ≢ 1 }
+    ensures { CellsReached D.inverse (instance_of steps.instance) steps.count state.old state.new }
 {
-    if inverse {
-        return words::undo(instance, width, count, state);
-    }
-    words::run(instance, width, count, state)
-}
-
-// `count` steps on the cells, or `count` steps undone, `width` at a time. L begins at l before the first of them. Returns L after the steps,
-// or before them.
-pub fn run_or_undo(
-    inverse: bool,
-    bits: &mut [u8; 256],
-    instance: u32,
-    width: u32,
-    l: u32,
-    count: u32,
-) -> u32
-    requires steppable { Steppable instance width l count bits.old }
-    requires width_not_one { width ≢ 1 }
-    ensures { CellsReached inverse (instance_of instance) l count bits.old bits.new result }
-{
-    let half = half_of(instance);
-    let x = load(bits, 0, half);
-    let y = load(bits, half, half);
-    let state = RegisterWords {
-        x: x,
-        y: y,
-        l: l as u64,
+    let half = Taps::of(Instance::from(steps.instance)).half;
+    let (x, y) = state.bits[..2 * half].split_at(half);
+    let words = RegisterWords {
+        x: load(x),
+        y: load(y),
+        l: u64::from(state.l.value),
     };
-    let after = run_or_undo_words(inverse, instance, width, count, state);
-    let x2 = after.x;
-    let y2 = after.y;
-    save(x2, bits, 0, half);
-    save(y2, bits, half, half);
-    after.l as u32
+    let after = D::together(steps, words);
+    let bits = &mut state.bits;
+    save(after.x, &mut bits[..half]);
+    save(after.y, &mut bits[half..2 * half]);
+    // L is below 1024: a `try_from` could not fail, and would need an `unwrap`
+    state.l = RegisterL {
+        value: after.l as u32,
+    };
 }

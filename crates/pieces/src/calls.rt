@@ -1,5 +1,5 @@
 // Calls on a state, one after the other, each with the state that the one before it handed back.
-use crate::compare::smaller;
+use known_answers::forged;
 use refusals::number_of;
 use sponge::{Reply, State};
 
@@ -16,61 +16,60 @@ pub struct Calls {
     pub space: [u8; 4100],
 }
 
-// The calls with one more.
-fn with_reply(digits: u64, reply: Reply, space: [u8; 4100]) -> Calls {
-    let answer = reply.answer;
-    let state = reply.state;
-    let number = number_of(answer);
-    Calls {
-        number,
-        digits: digits % 100000000000 * 10 + (number % 10) as u64,
-        state,
-        space,
+impl Calls {
+    // No call yet, on a state.
+    pub fn on(state: State) -> Calls {
+        Calls {
+            number: 0,
+            digits: 0,
+            state,
+            space: [165; 4100],
+        }
     }
-}
 
-// No call yet, on a state.
-pub fn on(state: State) -> Calls {
-    Calls {
-        number: 0,
-        digits: 0,
-        state,
-        space: [165; 4100],
+    // `init`, and no call before it.
+    pub fn init(instance: u32) -> Calls {
+        Calls::on(forged(0, 0, 0, 0, 0)).init_again(instance)
     }
-}
 
-// `init`, after calls with these digits.
-pub fn init(digits: u64, instance: u32) -> Calls {
-    let space: [u8; 4100] = [165; 4100];
-    with_reply(digits, sponge::init(instance), space)
-}
+    // The calls with one more.
+    fn with_reply(self, reply: Reply) -> Calls {
+        let number = number_of(reply.answer);
+        Calls {
+            number,
+            digits: self.digits % 100000000000 * 10 + u64::from(number % 10),
+            state: reply.state,
+            ..self
+        }
+    }
 
-// A piece of the first `count` bits of the bytes.
-pub fn absorb(calls: Calls, width: u32, bytes: &[u8; 9], count: usize) -> Calls {
-    let state = calls.state;
-    let space = calls.space;
-    with_reply(
-        calls.digits,
-        sponge::absorb(state, width, bytes, count),
-        space,
-    )
-}
+    // `init` once more.
+    pub fn init_again(self, instance: u32) -> Calls {
+        self.with_reply(sponge::init(instance))
+    }
 
-// A finish with the first `length` bytes of the space as its buffer.
-pub fn finish(calls: Calls, width: u32, length: usize) -> Calls {
-    let state = calls.state;
-    let mut space = calls.space;
-    let end = smaller(length, 4100);
-    let reply = sponge::finish(state, width, &mut space[0..end]);
-    with_reply(calls.digits, reply, space)
-}
+    // A piece of the first `count` bits of the bytes.
+    pub fn absorb(self, width: u32, bytes: &[u8; 9], count: usize) -> Calls {
+        self.with_reply(sponge::absorb(self.state, width, bytes, count))
+    }
 
-// A squeeze of `count` blocks, with the bytes of the space from `from` up to `to` as its buffer.
-pub fn squeeze(calls: Calls, width: u32, count: usize, from: usize, to: usize) -> Calls {
-    let state = calls.state;
-    let mut space = calls.space;
-    let end = smaller(to, 4100);
-    let start = smaller(from, end);
-    let reply = sponge::squeeze(state, width, count, &mut space[start..end]);
-    with_reply(calls.digits, reply, space)
+    // A finish with the first `length` bytes of the space as its buffer.
+    pub fn finish(mut self, width: u32, length: usize) -> Calls {
+        let end = length.min(self.space.len());
+        let reply = sponge::finish(self.state, width, &mut self.space[..end]);
+        self.with_reply(reply)
+    }
+
+    // A squeeze of `count` blocks, with the bytes of the space from `from` up to `to` as its buffer.
+    pub fn squeeze(mut self, width: u32, count: usize, from: usize, to: usize) -> Calls {
+        let end = to.min(self.space.len());
+        let start = from.min(end);
+        let reply = sponge::squeeze(self.state, width, count, &mut self.space[start..end]);
+        self.with_reply(reply)
+    }
+
+    // Whether other calls came to the same state, and to the same bytes in the buffer.
+    pub fn same_outcome(&self, other: &Calls) -> bool {
+        self.state == other.state && self.space == other.space
+    }
 }

@@ -4,7 +4,6 @@
 
 mod blocks;
 mod calls;
-mod compare;
 mod cuts;
 mod forged;
 mod limit;
@@ -17,43 +16,22 @@ use refusals::number_of;
 use std::io;
 
 // `init`: its number, and the state.
-fn write_init(rt: &impl Print, instance: u32) -> io::Result<()> {
-    let reply = sponge::init(instance);
-    let answer = reply.answer;
-    let state = reply.state;
-    text::write_number(rt, b"init ", instance as u64)?;
-    text::write_number(rt, b": ", number_of(answer) as u64)?;
-    text::write(rt, b", ")?;
-    text::write_state(rt, state)
-}
-
 fn write_fresh_states(rt: &impl Print) -> io::Result<()> {
-    write_init(rt, 0)?;
-    write_init(rt, 1)?;
-    write_init(rt, 2)?;
-    write_init(rt, 3)?;
-    write_init(rt, 4)?;
-    write_init(rt, 257)
+    for instance in [0, 1, 2, 3, 4, 257] {
+        let reply = sponge::init(instance);
+        print!(rt; "init {instance}: {}, ", number_of(reply.answer))?;
+        text::write_state(rt, reply.state)?;
+    }
+    Ok(())
 }
 
 // The first 40 and the first 67 bits of one message, at each instance.
 fn write_messages(rt: &impl Print) -> io::Result<()> {
-    let message = *b"lamp log\xA5";
-    cuts::write_cuts(rt, b"U-QUARK, 40 bits\n", 1, &message, 40)?;
-    cuts::write_cuts(rt, b"U-QUARK, 67 bits\n", 1, &message, 67)?;
-    cuts::write_cuts(rt, b"D-QUARK, 40 bits\n", 2, &message, 40)?;
-    cuts::write_cuts(rt, b"D-QUARK, 67 bits\n", 2, &message, 67)?;
-    cuts::write_cuts(rt, b"S-QUARK, 40 bits\n", 3, &message, 40)?;
-    cuts::write_cuts(rt, b"S-QUARK, 67 bits\n", 3, &message, 67)
-}
-
-fn write_limits(rt: &impl Print) -> io::Result<()> {
-    limit::write_limit(rt, b"U-QUARK, 60 bits to the limit\n", 1, 2097144)?;
-    limit::write_limit(rt, b"D-QUARK, 60 bits to the limit\n", 2, 1048572)?;
-    limit::write_limit(rt, b"S-QUARK, 60 bits to the limit\n", 3, 524286)?;
-    limit::write_extra_limit(rt, b"U-QUARK, 1 block to the limit\n", 1, 3145743)?;
-    limit::write_extra_limit(rt, b"D-QUARK, 1 block to the limit\n", 2, 2097161)?;
-    limit::write_extra_limit(rt, b"S-QUARK, 1 block to the limit\n", 3, 1572870)
+    for (name, instance) in [("U-QUARK", 1), ("D-QUARK", 2), ("S-QUARK", 3)] {
+        cuts::write_cuts(rt, name, instance, b"lamp log\xA5", 40)?;
+        cuts::write_cuts(rt, name, instance, b"lamp log\xA5", 67)?;
+    }
+    Ok(())
 }
 
 fn write_forged_states(rt: &impl Print) -> io::Result<()> {
@@ -70,6 +48,7 @@ fn write_forged_states(rt: &impl Print) -> io::Result<()> {
 fn main(rt: HostRuntime) -> io::Result<()> {
     write_fresh_states(&rt)?;
     write_messages(&rt)?;
-    write_limits(&rt)?;
+    limit::write_limits(&rt)?;
+    limit::write_extra_limits(&rt)?;
     write_forged_states(&rt)
 }

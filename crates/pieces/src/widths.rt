@@ -1,43 +1,15 @@
-// Step widths and lengths of the instances.
-ghost use Rattle.std.specs.Prelude.{◌≤◌};
-
-use permutation::lines::state_bytes;
+// Step widths of the instances.
 
 // The greatest width of the instance.
 pub fn widest(instance: u32) -> u32 {
-    if instance == 3 {
-        return 16;
-    }
-    8
+    if instance == 3 { 16 } else { 8 }
 }
 
 // A width of the instance for call i: 1, 8 and the greatest, over and over.
 pub fn width_at(instance: u32, i: usize) -> u32 {
-    if i % 3 == 0 {
-        return 1;
+    match i % 3 {
+        0 => 1,
+        1 => 8,
+        _ => widest(instance),
     }
-    if i % 3 == 1 {
-        return 8;
-    }
-    widest(instance)
-}
-
-// The bytes of a block: r/8.
-pub fn block_bytes(instance: u32) -> usize
-    ensures { (1 ≤ result) × (result ≤ 4) }
-{
-    if instance == 1 {
-        return 1;
-    }
-    if instance == 2 {
-        return 2;
-    }
-    4
-}
-
-// The bytes of a digest.
-pub fn digest_bytes(instance: u32) -> usize
-    ensures { result ≤ 32 }
-{
-    state_bytes(instance)
 }

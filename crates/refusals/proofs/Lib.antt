@@ -1,3 +1,4 @@
 -- The laws of lines in checking order and of outcomes.
 pub mod FirstLine
 pub mod Outcome
+pub mod Rows

@@ -1,8 +1,8 @@
 -- What a call answers (docs/RULES.md).
-use Rattle.std.specs.Prelude.{ℕ, zero, suc}
-use Rattle.refusals.specs.declared.Answer.{Answer}
-use Rattle.refusals.specs.declared.Answer.TheVariants.{Accepted, Refused}
+use Rattle.std.specs.Prelude.{ℕ, zero, suc, List, ◌++◌, codes, Result, Ok, Err}
+use Rattle.std.specs.Fmt.{decimal}
 use Rattle.refusals.specs.declared.Refusal.{Refusal}
+use Rattle.refusals.specs.Lines.{number}
 
 -- accepted, with the call's values; or refused, with a line's number and a place
 pub data Outcome (A : Type 0) : Type 0 where
@@ -14,10 +14,10 @@ unfoldable pub outcome : {A : Type 0} → (number : ℕ) → A → Outcome A
 outcome zero values = accepted values
 outcome (suc number) values = refused (suc number) 0
 
--- what an answer without values stands for
-unfoldable pub outcome_of : Answer → Outcome (Unit {0})
-outcome_of Accepted = accepted tt
-outcome_of (Refused r) = refused r.number r.place
+-- what an answer stands for
+unfoldable pub outcome_of : {A : Type 0} → Result A Refusal → Outcome A
+outcome_of (Ok values) = accepted values
+outcome_of (Err r) = refused (number r.line) r.place
 
 -- the number that stands for an outcome: 0 where the call was accepted, else the line's
 unfoldable pub number_of : {A : Type 0} → Outcome A → ℕ
@@ -34,6 +34,6 @@ unfoldable pub value_or : {A : Type 0} → Outcome A → (before : A) → A
 value_or (accepted value) before = value
 value_or (refused number place) before = before
 
--- number and place, as a refusal: two zeros where the call was accepted
-unfoldable pub refusal_of : {A : Type 0} → Outcome A → Refusal
-refusal_of outcome = record { number = number_of outcome; place = place_of outcome }
+-- a refusal in print: the line's number and the place, in decimal
+abbrev pub refusal_text : Refusal → List ℕ
+refusal_text r = decimal (number r.line) ++ codes " " ++ decimal r.place

@@ -3,7 +3,7 @@ use mathlib.Core.Bool.{Bool, true, false, cond}
 use mathlib.Core.List.{List, [], ◌∷◌, ◌++◌}
 use mathlib.Core.Logic.{◌↔◌}
 use mathlib.Core.Path.{◌≡◌, refl, sym, ap, ◌∙◌}
-use Prim.Native.Nat.{ℕ, zero, suc, ◌+◌, ◌*◌, ◌-◌, ◌/◌, ◌%◌, ◌<◌}
+use Prim.Native.Nat.{ℕ, zero, suc, ◌+◌, ◌*◌, ◌-◌, ◌/◌, ◌%◌, ◌<◌, ◌≤◌}
 use native.Mathlib.Nat.{mod-lt, div-add-mod', suc-ne-zero, add-zero}
 use native.Mathlib.Decide.{ℕ_discrete}
 use native.Mathlib.Numerals.{add-one}
@@ -127,6 +127,24 @@ module _ (I : Instance) (R : Regular I) where
       let added = add_bit I (bit_index I h.total) 1 h.sponge in
       let count : suc (I.n / I.r - 1) ≡ I.n / I.r = omega (arith, R.some_output) in
       ap (holding h) (squeezed-run I (I.n / I.r - 1) added ∙ ap (λ (k : ℕ). squeezed I k added) count)
+
+-- P runs at most once for each bit
+module _ (I : Instance) where
+  once : (h : Content) (x : ℕ) → (take_bit I h x).sponge.runs ≤ h.sponge.runs + 1
+  unfolding take_bit add_bit run_P
+  once h x = either (eqb ((h.total + 1) % I.r) 0)
+    where
+      added : Counted
+      added = add_bit I (bit_index I h.total) x h.sponge
+
+      either : (t : Bool) → (cond t (run_P I added) added).runs ≤ h.sponge.runs + 1
+      either true = omega arith
+      either false = omega arith
+
+  pub most-runs : (h : Content) (xs : List ℕ) → (take_bits I h xs).sponge.runs ≤ h.sponge.runs + length xs
+  unfolding take_bits
+  most-runs h [] = omega arith
+  most-runs h (x ∷ xs) = omega (arith, once h x, most-runs (take_bit I h x) xs)
 
 -- ---- one bit more
 

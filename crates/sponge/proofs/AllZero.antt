@@ -1,13 +1,14 @@
 -- Bytes that are all zero: read one by one from an offset on, and as a list.
-use mathlib.Core.Bool.{true, false, and-eq-true_iff}
+use mathlib.Core.Bool.{Bool, true, false, ◌&&◌, and-eq-true_iff}
 use mathlib.Core.List.{List, [], ◌∷◌}
-use mathlib.Core.Path.{◌≡◌, refl, ap₂}
+use mathlib.Core.Path.{◌≡◌, refl, ap, ap₂}
 use Prim.Native.Nat.{ℕ, suc, ◌+◌, ◌<◌, ◌≤◌}
 use native.Mathlib.Numerals.{add-one}
 use borrow.Author.Tests.{eqb-true, eq-eqb, ne_eqb}
 use lib.Dec.{eqb}
 use lib.ListN.{length, get_or, drop, replicate, drop_of_length-le}
 use lib.Seq.{drop-cons}
+use Rattle.std.specs.List.{list_all}
 use Rattle.sponge.specs.Soundness.{all_zero}
 
 -- ---- the bytes from an offset on, by the byte there
@@ -26,6 +27,12 @@ module _ (l : List ℕ) (i : ℕ) where
   zero_past_end past = rw (drop_of_length-le l {i = i} past)
 
 -- ---- as a list
+
+-- the library's test of each byte
+pub each_zero : (l : List ℕ) → list_all (λ b. eqb b 0) l ≡ all_zero l
+unfolding all_zero
+each_zero [] = refl
+each_zero (x ∷ l) = ap (λ (t : Bool). eqb x 0 && t) (each_zero l)
 
 pub zeros_of : (l : List ℕ) → all_zero l ≡ true → l ≡ replicate (length l) 0
 unfolding all_zero

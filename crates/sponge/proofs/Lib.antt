@@ -2,6 +2,7 @@
 pub mod Taking
 pub mod AfterTaking
 pub mod AllZero
+pub mod Ready
 pub mod Compared
 pub mod StateBytes
 pub mod Soundness

@@ -4,12 +4,11 @@ use mathlib.Core.List.{List, [], ◌∷◌, ◌++◌, append_assoc}
 use mathlib.Core.Path.{◌≡◌, sym, ap, ap₂, ◌∙◌}
 use Prim.Native.Nat.{ℕ, zero, suc, ◌+◌, ◌*◌, ◌-◌, ◌<◌, ◌≤◌}
 use native.Mathlib.Omega.{arith}
-use lib.ListN.{length, get_or, set, take, drop, length-append, length-drop}
-use lib.Seq.{paste, take-length, take_all, take-paste, drop-paste, drop-drop, get_or-take, get_or-drop, length-take-le}
+use lib.ListN.{length, take, drop, length-append, length-drop}
+use lib.Seq.{paste, take-length, take_all, take-paste, drop-paste, drop-drop}
 use Rattle.sponge.specs.declared.State.{State}
 use Rattle.sponge.specs.Bytes.{same}
-use Rattle.sponge.specs.Marks.{mark_fields, mark_of, name_in, state_in, mark_at, with_mark, up_to_latest, found}
-use Rattle.sponge.proofs.Compared.{copied_next}
+use Rattle.sponge.specs.Marks.{four_bytes, mark_fields, mark_of, name_in, mark_at, with_mark, up_to_latest, found}
 
 -- ---- writing
 
@@ -45,48 +44,23 @@ written_after {d} {at} {s} {n} w t {b'} {m} e size room =
     record { size = sum; bytes = e ∙ ap₂ (λ (l : List ℕ) (i : ℕ). paste l i t (length t)) w.bytes end ∙ paste_after d at s t (omega arith) }
 
 -- where the parts of a mark are written one after another from 64 j on, it is mark j of the buffer
-pub parts_are_mark : (buffer : List ℕ) (j : ℕ) (name fields : List ℕ) (s : State) {b : List ℕ} → fields ≡ mark_fields s
-    → Written buffer (64 * j) (name ++ fields ++ s.bits ++ (0 ∷ 0 ∷ [])) 64 b → b ≡ with_mark buffer j (mark_of name s)
-unfolding with_mark mark_of
-parts_are_mark buffer j name fields s e w =
-    let mark = name ++ fields ++ s.bits ++ (0 ∷ 0 ∷ []) in
+pub parts_are_mark : (buffer : List ℕ) (j : ℕ) (name : List ℕ) (s : State) {total runs extra b : List ℕ}
+    → total ≡ four_bytes s.total → runs ≡ four_bytes s.runs → extra ≡ four_bytes s.extra
+    → Written buffer (64 * j) (name ++ (s.instance ∷ s.phase ∷ []) ++ total ++ runs ++ extra ++ s.bits ++ (0 ∷ 0 ∷ [])) 64 b
+    → b ≡ with_mark buffer j (mark_of name s)
+unfolding with_mark mark_of mark_fields four_bytes
+parts_are_mark buffer j name s {total} {runs} {extra} et er ee w =
+    let parts = name ++ (s.instance ∷ s.phase ∷ []) ++ total ++ runs ++ extra ++ s.bits ++ (0 ∷ 0 ∷ []) in
     w.bytes
-    ∙ ap₂ (λ (l : List ℕ) (k : ℕ). take (64 * j) buffer ++ l ++ drop (64 * j + k) buffer) (take-length mark) w.size
-    ∙ ap (λ (f : List ℕ). take (64 * j) buffer ++ (name ++ f ++ s.bits ++ (0 ∷ 0 ∷ [])) ++ drop (64 * j + 64) buffer) e
+    ∙ ap₂ (λ (l : List ℕ) (k : ℕ). take (64 * j) buffer ++ l ++ drop (64 * j + k) buffer) (take-length parts) w.size
+    ∙ ap (λ (l : List ℕ). take (64 * j) buffer ++ l ++ drop (64 * j + 64) buffer) (rw (et, er, ee) (simp append_assoc))
 
 -- ---- reading
 
--- a mark of a buffer has 64 bytes
-pub mark-size : (buffer : List ℕ) (j : ℕ) → 64 * j + 64 ≤ length buffer → length (mark_at buffer j) ≡ 64
+-- the first 64 bytes of the buffer from 64 j on, as the code cuts them out
+pub mark-part : (buffer : List ℕ) (j : ℕ) {mark : List ℕ} → mark ≡ take 64 (take (length buffer - 64 * j) (drop (64 * j) buffer)) → mark ≡ mark_at buffer j
 unfolding mark_at
-mark-size buffer j h = length-take-le 64 (drop (64 * j) buffer) (rw length-drop (omega arith))
-
--- the part of the buffer from 64 j to 64 j + 64, as the code cuts it out
-pub mark-part : (buffer : List ℕ) (j : ℕ) → take (64 * j + 64 - 64 * j) (drop (64 * j) buffer) ≡ mark_at buffer j
-unfolding mark_at
-mark-part buffer j =
-    let size : 64 * j + 64 - 64 * j ≡ 64 = omega arith in
-    ap (λ (n : ℕ). take n (drop (64 * j) buffer)) size
-
--- the name in a mark: its size, and byte j
-pub name-size : (mark : List ℕ) → length mark ≡ 64 → length (name_in mark) ≡ 16
-unfolding name_in
-name-size mark size = length-take-le 16 mark (omega arith)
-
-pub name-byte : (mark : List ℕ) (j : ℕ) → j < 16 → get_or (name_in mark) j 0 ≡ get_or mark j 0
-unfolding name_in
-name-byte mark j h = get_or-take 16 mark j 0 h
-
--- the bits in a mark, copied byte by byte: one byte more, and all 32
-pub bits-next : (mark to : List ℕ) (j : ℕ) → length mark ≡ 64 → j < 32 → j < length to → take j to ≡ take j (drop 30 mark)
-    → take (j + 1) (set to j (get_or mark (30 + j) 0)) ≡ take (j + 1) (drop 30 mark)
-bits-next mark to j size h g e =
-    let long : length (drop 30 mark) ≡ 34 = length-drop 30 mark ∙ omega arith in
-    ap (λ (v : ℕ). take (j + 1) (set to j v)) (sym (get_or-drop 30 mark j 0)) ∙ copied_next (drop 30 mark) to j (omega arith) g e
-
-pub bits-all : (mark to : List ℕ) (j : ℕ) → j ≡ 32 → length to ≡ 32 → take j to ≡ take j (drop 30 mark) → to ≡ (state_in mark).bits
-unfolding state_in
-bits-all mark to j all size e = sym (take_all j to (omega arith)) ∙ e ∙ ap (λ (k : ℕ). take k (drop 30 mark)) all
+mark-part buffer j e = e ∙ ap (take 64) (take_all (length buffer - 64 * j) (drop (64 * j) buffer) (rw length-drop (omega arith)))
 
 -- ---- the latest mark with a name
 
@@ -99,8 +73,13 @@ module _ (name buffer mark : List ℕ) (j k : ℕ) (e : mark ≡ mark_at buffer 
       let m : j + 1 ≡ suc j = omega arith in
       rw (e, n, m)
 
-  pub last-named : same (name_in mark) name ≡ true → up_to_latest name buffer k ≡ j + 1
-  last-named named = by_last ∙ rw named
+  -- if these decide which is the latest of `count`, it is the one that is found among them
+  pub last-named : (count : ℕ) → up_to_latest name buffer count ≡ up_to_latest name buffer k → same (name_in mark) name ≡ true
+      → (0 < up_to_latest name buffer count) × (mark ≡ found name buffer count)
+  unfolding found
+  last-named count decide named =
+      let upto : up_to_latest name buffer count ≡ j + 1 = decide ∙ by_last ∙ rw named in
+      (omega (arith, upto), e ∙ ap (mark_at buffer) (omega (arith, upto)))
 
   pub last-not_named : {i : ℕ} → same (name_in mark) name ≡ false → i ≡ j → up_to_latest name buffer k ≡ up_to_latest name buffer i
   last-not_named other e' = by_last ∙ rw other (ap (up_to_latest name buffer) (sym e'))
@@ -119,8 +98,3 @@ latest_within name buffer (suc j) = by_test (same (name_in (mark_at buffer j)) n
     by_test : (t : Bool) {l : ℕ} → l ≤ j → cond t (suc j) l ≤ suc j
     by_test true h = omega arith
     by_test false h = omega arith
-
--- the mark that is found is the last up to it
-pub found_at : (name buffer : List ℕ) (k upto : ℕ) → upto ≡ up_to_latest name buffer k → mark_at buffer (upto - 1) ≡ found name buffer k
-unfolding found
-found_at name buffer k upto e = ap (λ (n : ℕ). mark_at buffer (n - 1)) e

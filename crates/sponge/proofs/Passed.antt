@@ -1,32 +1,32 @@
 -- What follows where no line refuses a call, and the reply by the number that the lines give.
 use mathlib.Core.Bool.{Bool, true, false, not, ◌||◌}
-use mathlib.Core.List.{List, [], ◌∷◌, ◌++◌}
-use mathlib.Core.Path.{◌≡◌, refl, sym, ap, ◌∙◌}
-use Prim.Native.Nat.{ℕ, suc, ◌+◌, ◌*◌, ◌-◌, ◌/◌, ◌%◌, ◌<◌, ◌≤◌}
+use mathlib.Core.List.{List, [], ◌∷◌}
+use mathlib.Core.Path.{◌≡◌, refl, sym, ◌∙◌}
+use Prim.Native.Nat.{ℕ, suc, ◌+◌, ◌*◌, ◌/◌, ◌%◌, ◌<◌, ◌≤◌}
 use native.Mathlib.Omega.{arith}
 use borrow.Author.Tests.{ltb-false, leb-false, eqb-true, not-false, eq-eqb, ne_eqb, le-ltb}
 use lib.Dec.{ltb, eqb}
 use lib.ListN.{length}
-use Rattle.refusals.specs.Lines.{first_line}
+use Rattle.std.specs.Prelude.{Err}
+use Rattle.refusals.specs.declared.lines.Line.{Line}
+use Rattle.refusals.specs.Lines.{first_line, number, refused_by}
 use Rattle.refusals.specs.Outcome.{accepted, refused}
-use Rattle.refusals.proofs.FirstLine.{none_holds, with_rest, none_in_front, decided_before, neither, right_length}
-use Rattle.refusals.proofs.Outcome.{refused-outcome, accepted-outcome, refused-left, accepted-left}
+use Rattle.refusals.proofs.FirstLine.{none_holds, none_in_front, decided_before, neither, right_length}
+use Rattle.refusals.proofs.Outcome.{refused-outcome, accepted-outcome, refused-left, accepted-left, no_line_0, some_line}
 use Rattle.quark.specs.Instance.{is_instance, is_width, state_bytes}
 use Rattle.permutation.specs.Lines.{line1, line4}
 use Rattle.sponge.specs.declared.State.{State}
 use Rattle.sponge.specs.Soundness.{limit, extra_limit, most_blocks, sound}
-use Rattle.sponge.specs.Marks.{mark_size, most_mark_bytes, state_in, mark_at, up_to_latest, found}
+use Rattle.sponge.specs.Marks.{mark_size, most_mark_bytes, state_in, up_to_latest, found}
 use Rattle.sponge.specs.Outcomes.{Result, result_by, line2, line2_mark, line3, line3_squeeze, line6, line7, line14, line15, line17, line18, line19, blocks_bytes, absorb_number, finish_number, squeeze_number, mark_number, recall_number, digest_number}
-use Rattle.sponge.specs.leaf.Marks.{found_number}
-use Rattle.sponge.specs.leaf.Ready.{ZeroPast, Ready}
+use Rattle.sponge.proofs.Ready.{ZeroPast, Ready}
 use Rattle.sponge.proofs.Soundness.{either_way, phase_byte, Absorbing, absorbing, Closed, closed}
-use Rattle.sponge.proofs.MarkBytes.{latest_within}
 
 -- lines 1 and 4, and the zeros of a sound state
 ready_passed : (s : State) (w : ℕ) → line1 s.instance ≡ false → line4 s.instance w ≡ false → ZeroPast s → Ready s w
 unfolding line1 line4
 ready_passed s w one four zeros =
-    record { has_instance = not-false (is_instance s.instance) one; width = not-false (is_width s.instance w) four; zero_past = zeros }
+    record { has_instance = not-false (is_instance s.instance) one; has_width = not-false (is_width s.instance w) four; zero_past = zeros }
 
 -- ---- a piece and a finish
 
@@ -142,16 +142,6 @@ mark-passed s bytes count e =
 
 -- ---- a return
 
--- what `found_line` answers: 18 where there is no mark, else the lines of the last of the first `upto`
-pub none_there : (buffer : List ℕ) (upto : ℕ) → upto ≡ 0 → 18 ≡ found_number buffer upto
-unfolding found_number first_line
-none_there buffer upto none = rw (eq-eqb upto 0 none)
-
-pub lines_of_last : (buffer mark : List ℕ) (upto : ℕ) → (upto ≡ 0 → ⊥) → mark ≡ mark_at buffer (upto - 1)
-    → first_line ((line1 (state_in mark).instance, 1) ∷ (line2_mark mark, 2) ∷ []) ≡ found_number buffer upto
-unfolding found_number first_line
-lines_of_last buffer mark upto some e = rw (e, ne_eqb upto 0 some)
-
 -- the lines of the state and of the buffer come first, then those of the mark that is found
 abbrev front_lines : State → (bytes count : ℕ) → List (Bool × ℕ)
 front_lines s bytes count = (line1 s.instance, 1) ∷ (line2 s, 2) ∷ (line17 bytes count, 17) ∷ []
@@ -160,38 +150,33 @@ abbrev pub found_lines : (name buffer : List ℕ) (count : ℕ) → List (Bool �
 found_lines name buffer count =
     (line18 name buffer count, 18) ∷ (line1 (state_in (found name buffer count)).instance, 1) ∷ (line2_mark (found name buffer count), 2) ∷ []
 
-module _ (s : State) (name buffer : List ℕ) (count front : ℕ) (e : front ≡ first_line (front_lines s (length buffer) count ++ ((true, 0) ∷ []))) where
-  by_front : front ≡ first_line (front_lines s (length buffer) count)
-  unfolding first_line
-  by_front = with_rest (front_lines s (length buffer) count) [] e refl
-
+module _ (s : State) (name buffer : List ℕ) (count front : ℕ) (e : front ≡ first_line (front_lines s (length buffer) count)) where
   -- one of the first lines holds: the others are not read
   pub recall-by_front : (front ≡ 0 → ⊥) → front ≡ recall_number s name buffer count
   unfolding recall_number
-  recall-by_front = decided_before [] (front_lines s (length buffer) count) (found_lines name buffer count) front by_front
+  recall-by_front = decided_before [] (front_lines s (length buffer) count) (found_lines name buffer count) front e
 
   -- none of them holds: the marks in use fit the buffer, and the others decide
   module _ (none : front ≡ 0) where
     pub marks_fit : 64 * count ≤ length buffer
     marks_fit =
-        let each = none_holds (front_lines s (length buffer) count) refl (sym by_front ∙ none) in
+        let each = none_holds (front_lines s (length buffer) count) refl (sym e ∙ none) in
         count-passed (length buffer) count (search each)
 
-    module _ (upto rest : ℕ) (eu : upto ≡ up_to_latest name buffer count) (er : rest ≡ found_number buffer upto) where
-      pub recall-by_rest : rest ≡ recall_number s name buffer count
-      unfolding recall_number found_number line18 found
-      recall-by_rest =
-          er
-          ∙ ap (found_number buffer) eu
-          ∙ sym (none_in_front (front_lines s (length buffer) count) (found_lines name buffer count) refl (sym by_front ∙ none))
+    -- the line of what is found, in front of which none of the first lines holds
+    rest_decide : recall_number s name buffer count ≡ first_line (found_lines name buffer count)
+    unfolding recall_number
+    rest_decide = none_in_front (front_lines s (length buffer) count) (found_lines name buffer count) refl (sym e ∙ none)
 
-      -- where none of those holds either, there is a mark, and it stands in the buffer
-      pub mark-found : rest ≡ 0 → (0 < upto) × (64 * (upto - 1) + 64 ≤ length buffer)
-      mark-found none-either =
-          let within = latest_within name buffer count in
-          let fit = marks_fit in
-          let some : (upto ≡ 0 → ⊥) = λ z. omega (arith, none_there buffer upto z) in
-          (omega arith, omega arith)
+    pub no_mark : up_to_latest name buffer count ≡ 0 → 18 ≡ recall_number s name buffer count
+    unfolding first_line line18
+    no_mark missing = sym (rest_decide ∙ rw (eq-eqb _ 0 missing))
+
+    -- the mark that is found decides
+    pub by_mark : {mark : List ℕ} {rest : ℕ} → (0 < up_to_latest name buffer count) × (mark ≡ found name buffer count)
+        → rest ≡ first_line ((line1 (state_in mark).instance, 1) ∷ (line2_mark mark, 2) ∷ []) → rest ≡ recall_number s name buffer count
+    unfolding first_line line18
+    by_mark (some, is) er = er ∙ sym (rest_decide ∙ rw (is, ne_eqb _ 0 (λ (z : up_to_latest name buffer count ≡ 0). omega (arith, some, z))))
 
 -- ---- the whole digest
 
@@ -217,9 +202,10 @@ digest-passed i w bytes count buffer e =
 
 -- ---- the reply by the number
 
-pub refused-result : (number lines : ℕ) (s t : State) → number ≡ lines → (number ≡ 0 → ⊥) → ◌≡◌ {A = Result} (record { outcome = refused number 0; state = s }) (result_by lines s t)
-unfolding result_by
-refused-result number lines s t e some = cc (refused-outcome (tt {0}) number lines e some, refused-left lines s t (λ z. some (e ∙ z)))
+pub refused-result : (line : Line) (lines : ℕ) (s t : State) → refused_by {A = Unit {0}} (Err line) ≡ lines
+    → ◌≡◌ {A = Result} (record { outcome = refused (number line) 0; state = s }) (result_by lines s t)
+unfolding result_by refused_by
+refused-result line lines s t e = cc (refused-outcome (tt {0}) (number line) lines e (no_line_0 line), refused-left lines s t (some_line line lines e))
 
 pub accepted-result : (lines : ℕ) (s t t' : State) → lines ≡ 0 → t' ≡ t → ◌≡◌ {A = Result} (record { outcome = accepted tt; state = t' }) (result_by lines s t)
 unfolding result_by

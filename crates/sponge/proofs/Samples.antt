@@ -4,17 +4,18 @@ use mathlib.Core.List.{List, [], ◌∷◌, ◌++◌}
 use mathlib.Core.Path.{◌≡◌, refl}
 use Prim.Native.Nat.{ℕ, ◌+◌}
 use lib.ListN.{replicate}
-use Rattle.refusals.specs.Lines.{first_line, line5}
+use Rattle.std.specs.Prelude.{Ok, Err}
+use Rattle.refusals.specs.declared.lines.Line.TheVariants.{NoFreeMark}
+use Rattle.refusals.specs.Lines.{first_line, line5, number}
 use Rattle.quark.specs.Bytes.{tabulate, bit_at, bits_of}
 use Rattle.quark.specs.Instance.{instance_of, U, D, S, is_instance, is_width, state_bytes}
 use Rattle.permutation.specs.Lines.{line1, line4}
 use Rattle.sponge.specs.declared.State.{State}
-use Rattle.sponge.specs.declared.Marked.TheVariants.{Count, Refused}
-use Rattle.refusals.specs.Outcome.{accepted, refused, outcome}
+use Rattle.refusals.specs.Outcome.{accepted, refused, outcome, outcome_of}
 use Rattle.sponge.specs.Bytes.{same, four_byte_number}
 use Rattle.sponge.specs.Soundness.{all_zero, sound_runs, most_extra, sound, all_zeros}
 use Rattle.sponge.specs.Marks.{four_bytes, mark_fields, mark_of, name_in, state_in, ends_in_zeros, mark_at, with_mark, up_to_latest, found}
-use Rattle.sponge.specs.Outcomes.{line2, line2_mark, line3_squeeze, line6, line7, line8, line14, line15, line17, line18, line19, blocks_bytes, squeeze_number, mark_number, marked_outcome, mark_outcome, mark_bytes, recall_number, digest_number}
+use Rattle.sponge.specs.Outcomes.{line2, line2_mark, line3_squeeze, line6, line7, line8, line14, line15, line17, line18, line19, blocks_bytes, squeeze_number, mark_number, mark_outcome, mark_bytes, recall_number, digest_number}
 use Rattle.sponge.specs.ReadBack.{Marking}
 use Rattle.sponge.specs.Calls.{Message, piece, finish, squeeze, message_number, grown, extended}
 use Rattle.sponge.specs.Lists.{Name, on_state, mark, recall, is_saved, latest_saved, messages_number, messages_after, messages_from, messages_of, message_of}
@@ -146,9 +147,9 @@ mark-edges = (refl, refl, refl, refl, refl, refl, refl, refl, refl, refl, refl, 
 
 -- what an answer of mark stands for, and the count that it has: one more than were in use
 pub mark-answers :
-    (marked_outcome (Count 2) ≡ accepted 2) × (marked_outcome (Refused (record { number = 19; place = 0 })) ≡ refused 19 0)
+    (outcome_of {A = ℕ} (Ok 2) ≡ accepted 2) × (outcome_of {A = ℕ} (Err (record { line = NoFreeMark; place = 0 })) ≡ refused 19 0)
     × (mark_outcome (state_at 1 0 0 0 0 0) 128 1 ≡ accepted 2) × (mark_outcome (state_at 1 0 0 0 0 0) 64 1 ≡ refused 19 0)
-unfolding marked_outcome mark_outcome outcome mark_number first_line line1 line2 line17 line19 sound sound_runs most_extra all_zero is_instance state_bytes instance_of U
+unfolding outcome_of number mark_outcome outcome mark_number first_line line1 line2 line17 line19 sound sound_runs most_extra all_zero is_instance state_bytes instance_of U
 mark-answers = (refl, refl, refl, refl)
 
 -- the second of three marks is written, and no other byte; refused, none is

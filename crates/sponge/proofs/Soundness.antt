@@ -10,7 +10,7 @@ use Rattle.quark.proofs.Bits.{Wide}
 use Rattle.sponge.specs.declared.State.{State}
 use Rattle.sponge.specs.Taking.{Content}
 use Rattle.sponge.specs.Soundness.{limit, extra_limit, absorbing_phase, closed_phase, rest_zero, sound_runs, most_extra, sound, state_with}
-use Rattle.sponge.specs.leaf.Ready.{ZeroPast, RunsOfTotal}
+use Rattle.sponge.proofs.Ready.{ZeroPast}
 use Rattle.sponge.proofs.StateBytes.{zero_past}
 
 -- b bits, a total and extra blocks within their limits, the runs of both, and a phase of 0 or 1
@@ -76,7 +76,7 @@ pub record Absorbing (s : State) : Type 0 where
   pub no_extra : s.extra ≡ 0
   pub zeros : ZeroPast s
   pub phase_is : s.phase ≡ absorbing_phase
-  pub runs-are : RunsOfTotal s
+  pub runs-are : s.runs ≡ s.total / (instance_of s.instance).r
 
 pub absorbing : (s : State) → sound s ≡ true → eqb s.phase closed_phase ≡ false → Absorbing s
 unfolding sound_runs most_extra

@@ -18,9 +18,10 @@ use Rattle.quark.proofs.Runs.{runs-squeezed, squeezed-run}
 use Rattle.sponge.specs.declared.State.{State}
 use Rattle.sponge.specs.Taking.{Content, holding, squeeze_output, extra_squeezed}
 use Rattle.sponge.specs.Soundness.{content_of, state_with}
-use Rattle.sponge.specs.leaf.Ready.{ZeroPast, Ready, with_sponge, last_bytes}
-use Rattle.sponge.proofs.StateBytes.{Bytes, whole-rate, bytes-last}
-use Rattle.sponge.proofs.Contents.{state-with_content, wide_content, of_content, ready_content}
+use Rattle.sponge.specs.leaf.Steps.{with_sponge}
+use Rattle.sponge.proofs.Ready.{ZeroPast}
+use Rattle.sponge.proofs.StateBytes.{Bytes, whole-rate}
+use Rattle.sponge.proofs.Contents.{state-with_content, wide_content, of_content}
 
 -- ---- lists
 
@@ -32,8 +33,14 @@ paste_next x y d m q ex ey =
     ∙ ap (λ (z : List ℕ). x ++ z ++ drop (m + q) d) (take_all q y (omega arith))
 
 -- of `count` parts of q bytes, part k fits
-pub part_fits : (k q count : ℕ) → k < count → k * q + q ≤ count * q
+part_fits : (k q count : ℕ) → k < count → k * q + q ≤ count * q
 part_fits k q count h = omega (arith, add-mul k 1 q, mul-le-mul_right {m = k + 1} {n = count} q (omega arith))
+
+-- the next block fits into the buffer
+pub block_fits : (i k count : ℕ) {step size : ℕ} → k < count → step ≡ (instance_of i).r / 8 → size ≡ count * ((instance_of i).r / 8)
+    → k * step + (instance_of i).r / 8 ≤ size
+block_fits i k count {step} h es en =
+    omega (arith, part_fits k step count h, ap (λ (q : ℕ). count * q) es)
 
 -- n/r blocks of r/8 bytes are b/8 bytes
 pub whole-output : (i : ℕ) → (instance_of i).n / (instance_of i).r * ((instance_of i).r / 8) ≡ state_bytes i
@@ -103,10 +110,6 @@ module _ (s : State) where
   wide_squeezed_content j = wide_squeezed (instance_of s.instance) (regular s.instance) j (content_of s).sponge (wide_content s)
 
 module _ (s : State) (d buffer : List ℕ) (t : State) (k : ℕ) (g : BlocksOut s d buffer t k) where
-  pub blocks_ready : (w : ℕ) → Ready s w → Ready t w
-  unfolding with_sponge
-  blocks_ready w r = ready_content s.instance s.phase (squeezed_content s k) (wide_squeezed_content s k) t g.state-is w r.has_instance r.width
-
   pub blocks_runs : t.runs ≡ s.runs + k
   unfolding with_sponge state_with content_of
   blocks_runs = ap (λ (y : State). y.runs) g.state-is ∙ runs-squeezed (instance_of s.instance) k (content_of s).sponge
@@ -133,19 +136,19 @@ module _ (s : State) (d buffer : List ℕ) (t : State) (k : ℕ) (g : BlocksOut 
     unfolding state_with
     run-instance = ap (λ (y : State). y.instance) after_run
 
-    pub blocks_next : length u.bits ≡ 32 → Bytes u.bits → (next : List ℕ)
-        → next ≡ paste buffer (k * ((instance_of s.instance).r / 8)) (last_bytes u.instance u.bits) ((instance_of u.instance).r / 8)
+    pub blocks_next : (next : List ℕ)
+        → next ≡ paste buffer (k * ((instance_of s.instance).r / 8)) (bytes_of ((instance_of u.instance).r / 8) (drop ((instance_of u.instance).b - (instance_of u.instance).r) (content_of u).sponge.bits)) ((instance_of u.instance).r / 8)
         → length next ≡ length buffer
         → BlocksOut s d next u (k + 1)
     unfolding with_sponge content_of run_P squeezed
-    blocks_next n small next en long =
+    blocks_next next en long =
         let I = instance_of s.instance in
         let q = I.r / 8 in
         let c = (content_of s).sponge in
         let wide : Wide I.b (run_P I c).bits = wide_squeezed_content s 1 in
-        let last : last_bytes u.instance u.bits ≡ bytes_of q (drop (I.b - I.r) (squeezed I k (run_P I c)).bits) =
-        bytes-last u.instance u.bits n small
-        ∙ of_content s.instance s.phase (squeezed_content s (suc k)) (wide_squeezed_content s (suc k)) u after_run
+        let last : bytes_of ((instance_of u.instance).r / 8) (drop ((instance_of u.instance).b - (instance_of u.instance).r) (content_of u).sponge.bits)
+        ≡ bytes_of q (drop (I.b - I.r) (squeezed I k (run_P I c)).bits) =
+        of_content s.instance s.phase (squeezed_content s (suc k)) (wide_squeezed_content s (suc k)) u after_run
         (λ i p h. bytes_of ((instance_of i).r / 8) (drop ((instance_of i).b - (instance_of i).r) h.sponge.bits))
         ∙ ap (λ (x : Counted). bytes_of q (drop (I.b - I.r) x.bits)) (sym (squeezed-run I k c)) in
         record {

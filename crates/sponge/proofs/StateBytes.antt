@@ -23,13 +23,16 @@ use Rattle.quark.proofs.Instance.{in_bytes, of_each, regular, P-wide}
 use Rattle.quark.proofs.Word.{word_bit-xor}
 use Rattle.permutation.specs.Permute.{on_bytes}
 use Rattle.sponge.specs.Soundness.{all_zero}
-use Rattle.sponge.specs.leaf.Ready.{last_bytes}
 use Rattle.sponge.proofs.Taking.{divided}
 use Rattle.sponge.proofs.AllZero.{zeros_of, all_zero_lem}
 
 -- every element is a byte
 abbrev pub Bytes : List ℕ → Type 0
 Bytes l = (j : ℕ) → get_or l j 0 < 256
+
+-- the bytes of the last r bits: r/8 bytes from (b - r)/8 on
+unfoldable pub last_bytes : ℕ → List ℕ → List ℕ
+last_bytes i bytes = take ((instance_of i).r / 8) (drop (((instance_of i).b - (instance_of i).r) / 8) bytes)
 
 -- a block is whole bytes
 pub whole-rate : (i : ℕ) → (instance_of i).r ≡ 8 * ((instance_of i).r / 8)

@@ -4,7 +4,6 @@ use mathlib.Core.Bool.{true, false}
 use mathlib.Core.List.{List, []}
 use mathlib.Core.Path.{◌≡◌, refl, sym, ap, ◌∙◌, subst}
 use Prim.Native.Nat.{ℕ, ◌+◌, ◌*◌}
-use native.Mathlib.Nat.{zero-div}
 use native.Mathlib.Omega.{arith}
 use borrow.Author.Tests.{eq-eqb, le-ltb}
 use lib.ListN.{length}
@@ -21,10 +20,10 @@ use Rattle.sponge.specs.Soundness.{limit, absorbing_phase, most_extra, content_o
 use Rattle.sponge.specs.Outcomes.{line6, line7, init_result, absorb_number, absorb_result, finish_number, finish_bytes, digest_number, digest_bytes}
 use Rattle.sponge.specs.Calls.{piece, finish, state_number, after, Message, empty, message_number, grown}
 use Rattle.sponge.specs.TwoLists.{phase_of, sponge_of}
-use Rattle.sponge.specs.leaf.Ready.{Ready, RunsOfTotal}
 use Rattle.sponge.proofs.Taking.{open_content, take-bits, finish-digest}
-use Rattle.sponge.proofs.Contents.{ready_content}
-use Rattle.sponge.proofs.Messages.{message_content, state_of, wide_sponge, content_open, fresh-empty, init_empty, Admissible, admissible_empty, accepted-grows, same_number, after_call}
+use Rattle.sponge.proofs.Contents.{zeros_of_wide}
+use Rattle.sponge.proofs.Ready.{Ready}
+use Rattle.sponge.proofs.Messages.{state_of, content_open, fresh-empty, init_empty, Admissible, admissible_empty, accepted-grows, same_number, after_call}
 use Rattle.sponge.proofs.Passed.{DigestPassed, digest-passed}
 
 -- an open message
@@ -35,17 +34,18 @@ opened m = record { bits = m; closed = false; extras = 0 }
 
 module _ (i : ℕ) (f : State) (ef : f ≡ fresh i) where
   pub fresh-ready : (w : ℕ) → is_instance i ≡ true → is_width i w ≡ true → Ready f w
-  unfolding state_of
+  unfolding fresh state_with
   fresh-ready w has_instance width =
-      ready_content i (phase_of empty) (message_content i empty) (wide_sponge i empty) f (ef ∙ fresh-empty i) w has_instance width
+      subst (λ (s : State). Ready s w) (sym ef)
+      (record { has_instance = has_instance; has_width = width; zero_past = zeros_of_wide i (instance_of i).initial (regular i).wide_initial refl })
 
   pub fresh-total : f.total ≡ 0
   unfolding fresh state_with
   fresh-total = ap (λ (s : State). s.total) ef
 
-  pub fresh-runs : RunsOfTotal f
+  pub fresh-runs : f.runs ≡ 0
   unfolding fresh state_with
-  fresh-runs = subst RunsOfTotal (sym ef) (sym (zero-div (instance_of i).r))
+  fresh-runs = ap (λ (s : State). s.runs) ef
 
   -- a message's bits, taken by the fresh state
   pub whole-message : (m : List ℕ) → state_with f.instance f.phase (take_bits (instance_of f.instance) (content_of f) m) ≡ state_of i (opened m)

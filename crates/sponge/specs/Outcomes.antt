@@ -2,15 +2,13 @@
 -- docs/RULES.md). Where a call is refused, the lent bytes are as they were, and so is the state, where one was given.
 use Rattle.std.specs.Prelude.{Bool, not, ◌&&◌, ◌||◌, cond, List, [], ◌∷◌, ℕ, ◌+◌, ◌*◌, ◌-◌, ◌/◌, ◌%◌, leb, ltb, eqb, length}
 use Rattle.refusals.specs.Lines.{first_line, line5}
-use Rattle.refusals.specs.Outcome.{Outcome, accepted, refused, outcome, outcome_of}
+use Rattle.refusals.specs.Outcome.{Outcome, outcome, outcome_of}
 use Rattle.quark.specs.Bytes.{bits_of, bytes_of}
 use Rattle.quark.specs.Instance.{instance_of, state_bytes}
 use Rattle.quark.specs.Sponge.{digest}
 use Rattle.permutation.specs.Lines.{line1, line4}
 use Rattle.sponge.specs.declared.State.{State}
 use Rattle.sponge.specs.declared.Reply.{Reply}
-use Rattle.sponge.specs.declared.Marked.{Marked}
-use Rattle.sponge.specs.declared.Marked.TheVariants.{Count, Refused}
 use Rattle.sponge.specs.Taking.{take_bits, finish_output, finished, squeeze_output, extra_squeezed}
 use Rattle.sponge.specs.Soundness.{limit, extra_limit, most_blocks, absorbing_phase, closed_phase, sound, content_of, state_with, fresh, all_zeros}
 use Rattle.sponge.specs.Marks.{mark_size, most_mark_bytes, mark_of, state_in, ends_in_zeros, with_mark, up_to_latest, found}
@@ -142,11 +140,6 @@ squeeze_bytes s w k buffer =
 unfoldable pub mark_number : State → (bytes count : ℕ) → ℕ
 mark_number s bytes count =
     first_line ((line1 s.instance, 1) ∷ (line2 s, 2) ∷ (line17 bytes count, 17) ∷ (line19 bytes count, 19) ∷ [])
-
--- what an answer of `mark` stands for
-unfoldable pub marked_outcome : Marked → Outcome ℕ
-marked_outcome (Count count) = accepted count
-marked_outcome (Refused r) = refused r.number r.place
 
 -- accepted, the new count is answered
 unfoldable pub mark_outcome : State → (bytes count : ℕ) → Outcome ℕ

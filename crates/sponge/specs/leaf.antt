@@ -1,3 +1,2 @@
 -- Forms that only the contracts of private functions cite.
-pub mod Ready
-pub mod Marks
+pub mod Steps

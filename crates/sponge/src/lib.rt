@@ -1,14 +1,20 @@
 // Hashing by pieces of bits (document 01, "Pieces and finish"; QUARK 3.1): a fresh state, pieces, finish, more blocks (document 02, 2.1), marks
 // to come back to (document 02, 2.5), and the whole digest.
 // A state is passed by value and, but for `mark`, one comes back beside the answer. All tests of a call precede all of its work.
+// State and width, and a buffer with the count of its marks in use, go in as docs/RULES.md has them: the caller keeps both. `absorb`, `finish`
+// and `squeeze` have a `match` each: one function over them would take a closure that uses the state up and writes to the buffer.
 #![tactic(auto)]
 
-ghost use Rattle.std.specs.Prelude.{◌≡◌, length};
+ghost use Rattle.std.specs.Prelude.{◌≡◌, length, IfOk};
+ghost use Rattle.refusals.specs.Lines.{refused_by};
 ghost use Rattle.refusals.specs.Outcome.{outcome_of};
-ghost use Rattle.sponge.specs.Outcomes.{result_of, init_result, absorb_result, finish_result, finish_bytes, squeeze_result, squeeze_bytes, marked_outcome, mark_outcome, mark_bytes, recall_result, digest_outcome, digest_bytes};
+ghost use Rattle.sponge.specs.Marks.{state_in, found};
+ghost use Rattle.sponge.specs.Outcomes.{result_of, init_result, absorb_result, finish_result, finish_bytes, squeeze_result, squeeze_bytes, mark_outcome, mark_bytes, recall_number, recall_result, digest_outcome, digest_bytes};
 
-use permutation::lines::{UNKNOWN_INSTANCE, is_instance};
-use refusals::{Answer, Refusal};
+use permutation::lines::is_instance;
+use pieces::Running;
+use refusals::Refusal;
+use refusals::lines::Line;
 
 mod fresh;
 mod lines;
@@ -19,8 +25,9 @@ mod rate;
 mod replies;
 mod sound;
 
-// A state of the sponge (document 01, "Pieces and finish"). Its fields are public: a forged state is an input like any other.
-#[derive(Clone, Copy)]
+// A state of the sponge (document 01, "Pieces and finish"). Its fields are public: a forged state is an input like any other. So instance and
+// phase are numbers, of which each operation refuses all but these (lines 1 and 2), and no enums.
+#[derive(Clone, Copy, PartialEq, Eq)]
 pub struct State {
     // 1 is U, 2 is D, 3 is S
     pub instance: u32,
@@ -32,22 +39,15 @@ pub struct State {
     pub runs: u32,
     // the extra blocks given out since the finish
     pub extra: u32,
-    // the state's bits in byte form: b/8 bytes, and zeros after them
+    // the state's bits in byte form: b/8 bytes, and zeros after them; an array, since line 2 reads the zeros too
     pub bits: [u8; 32],
 }
 
-// A call's answer, and the state that it hands back.
+// A call's answer, and the state that it hands back. A refusal hands the state back too, so this is no `Result` over a state.
 #[derive(Clone, Copy)]
 pub struct Reply {
-    pub answer: Answer,
+    pub answer: Result<(), Refusal>,
     pub state: State,
-}
-
-// What `mark` answers: how many marks are in use after it, or why it was refused.
-#[derive(Clone, Copy)]
-pub enum Marked {
-    Count(usize),
-    Refused(Refusal),
 }
 
 // Document 01's fresh state: no bit taken, no run made, no extra block given out, and the instance's initial bits.
@@ -56,9 +56,10 @@ pub fn init(instance: u32) -> Reply
     ensures { result_of result ≡ init_result instance }
 {
     if is_instance(instance) {
-        return replies::accept(fresh::fresh(instance));
+        Reply::accepted(fresh::fresh(instance))
+    } else {
+        Reply::refused(Line::UnknownInstance, fresh::zeros())
     }
-    replies::refuse(UNKNOWN_INSTANCE, fresh::zeros())
 }
 
 // Document 01's piece: takes the first `count` bits of the bytes into an absorbing state. P takes `width` steps together.
@@ -66,11 +67,10 @@ pub fn init(instance: u32) -> Reply
 pub fn absorb(state: State, width: u32, bytes: &[u8], count: usize) -> Reply
     ensures { result_of result ≡ absorb_result state width bytes.now count }
 {
-    let number = lines::absorb_line(state, width, bytes.len(), count);
-    if number != 0 {
-        return replies::refuse(number, state);
+    match lines::absorb_line(state, width, bytes.len(), count) {
+        Ok(()) => Reply::accepted(Running { state, width }.take_bits(bytes, count).state),
+        Err(line) => Reply::refused(line, state),
     }
-    replies::accept(pieces::take_bits(state, width, bytes, count))
 }
 
 // Document 01's finish: pads, writes the digest into the buffer and closes the state.
@@ -79,11 +79,10 @@ pub fn finish(state: State, width: u32, buffer: &mut [u8]) -> Reply
     ensures reply { result_of result ≡ finish_result state width (length buffer.old) }
     ensures bytes { buffer.new ≡ finish_bytes state width buffer.old }
 {
-    let number = lines::finish_line(state, width, buffer.len());
-    if number != 0 {
-        return replies::refuse(number, state);
+    match lines::finish_line(state, width, buffer.len()) {
+        Ok(()) => Reply::accepted(Running { state, width }.close(buffer)),
+        Err(line) => Reply::refused(line, state),
     }
-    replies::accept(output::close(state, width, buffer))
 }
 
 // Document 02's k more blocks of a closed state: for each, P runs once and the last r bits go into the buffer, k times r/8 bytes in all. The
@@ -93,25 +92,21 @@ pub fn squeeze(state: State, width: u32, k: usize, buffer: &mut [u8]) -> Reply
     ensures reply { result_of result ≡ squeeze_result state width k (length buffer.old) }
     ensures bytes { buffer.new ≡ squeeze_bytes state width k buffer.old }
 {
-    let number = lines::squeeze_line(state, width, k, buffer.len());
-    if number != 0 {
-        return replies::refuse(number, state);
+    match lines::squeeze_line(state, width, k, buffer.len()) {
+        Ok(()) => Reply::accepted(Running { state, width }.give_extra(k, buffer)),
+        Err(line) => Reply::refused(line, state),
     }
-    replies::accept(output::give_extra(state, width, k, buffer))
 }
 
 // Document 02's marking: writes the state under a name into the 64 bytes of the buffer after the `count` marks in use, and answers count + 1.
 // Refuses by lines 1, 2, 17 and 19, in this order; the buffer is then untouched.
-pub fn mark(state: State, name: [u8; 16], buffer: &mut [u8], count: usize) -> Marked
-    ensures answer { marked_outcome result ≡ mark_outcome state (length buffer.old) count }
+pub fn mark(state: State, name: [u8; 16], buffer: &mut [u8], count: usize) -> Result<usize, Refusal>
+    ensures answer { outcome_of result ≡ mark_outcome state (length buffer.old) count }
     ensures bytes { buffer.new ≡ mark_bytes state name buffer.old count }
 {
-    let number = lines::mark_line(state, buffer.len(), count);
-    if number != 0 {
-        return Marked::Refused(Refusal { number, place: 0 });
-    }
+    lines::mark_line(state, buffer.len(), count)?;
     marks::write(state, name, buffer, count);
-    Marked::Count(count + 1)
+    Ok(count + 1)
 }
 
 // Document 02's coming back: hands back the state of the latest mark with the name among the `count` in use. The state that is given may be of
@@ -120,30 +115,39 @@ pub fn mark(state: State, name: [u8; 16], buffer: &mut [u8], count: usize) -> Ma
 pub fn recall(state: State, name: [u8; 16], buffer: &[u8], count: usize) -> Reply
     ensures { result_of result ≡ recall_result state name buffer.now count }
 {
-    let number = lines::front_line(state, buffer.len(), count, 0);
-    if number != 0 {
-        return replies::refuse(number, state);
+    match recalled(state, name, buffer, count) {
+        Ok(found) => Reply::accepted(found),
+        Err(line) => Reply::refused(line, state),
     }
-    let upto = marks::up_to_latest(name, buffer, count);
-    let number = lines::found_line(buffer, upto);
-    if number != 0 {
-        return replies::refuse(number, state);
-    }
-    replies::accept(marks::state_in(marks::mark_at(buffer, upto - 1)))
+}
+
+// The state that a return hands back, or the first line that refuses it. Line 17 passes before a mark is read.
+fn recalled(state: State, name: [u8; 16], buffer: &[u8], count: usize) -> Result<State, Line>
+    ensures line { refused_by result ≡ recall_number state name buffer.now count }
+    ensures found { IfOk result (λ s. s ≡ state_in (found name buffer.now count)) }
+{
+    lines::recall_line(state, buffer.len(), count)?;
+    let mark = marks::latest(name, buffer, count).ok_or(Line::NoSuchMark)?;
+    lines::found_line(mark)?;
+    Ok(marks::state_in(mark))
 }
 
 // Document 01's whole digest: writes the digest of the first `count` bits of the message into the buffer. It is `init`, one `absorb` and
 // `finish`, with an order of tests of its own.
 // Refuses by lines 1, 4, 5, 6, 7 and 8, in this order; the buffer is then untouched.
-pub fn digest(instance: u32, width: u32, message: &[u8], count: usize, buffer: &mut [u8]) -> Answer
+pub fn digest(
+    instance: u32,
+    width: u32,
+    message: &[u8],
+    count: usize,
+    buffer: &mut [u8],
+) -> Result<(), Refusal>
     ensures answer { outcome_of result ≡ digest_outcome instance width message.now count buffer.old }
     ensures bytes { buffer.new ≡ digest_bytes instance width message.now count buffer.old }
 {
-    let number = lines::digest_line(instance, width, message.len(), count, buffer.len());
-    if number != 0 {
-        return Answer::Refused(Refusal { number, place: 0 });
-    }
-    let state = pieces::take_bits(fresh::fresh(instance), width, message, count);
-    output::close(state, width, buffer);
-    Answer::Accepted
+    lines::digest_line(instance, width, message.len(), count, buffer.len())?;
+    let state = fresh::fresh(instance);
+    let running = Running { state, width };
+    running.take_bits(message, count).close(buffer);
+    Ok(())
 }

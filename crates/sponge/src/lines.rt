@@ -1,66 +1,31 @@
 // The lines (docs/RULES.md) that read a state, a count, a total, a number of blocks or a mark, and the order of the lines in each operation.
-// Lines 1 and 4 are the permutation's, and the number of line 5 is in `refusals`.
-ghost use Rattle.std.specs.Prelude.{true, [], ◌∷◌, ◌≡◌, ◌+◌, ◌*◌, ◌≤◌, ltb, length};
-ghost use Rattle.refusals.specs.Lines.{first_line, line5};
+// Lines 1 and 4 are the permutation's. Instances and widths are numbers, and any: all lines of a call are worked out before one refuses it.
+// Each chain has all its rows, also those that others begin with, as its definition has.
+ghost use Rattle.std.specs.Prelude.{[], ◌∷◌, ◌≡◌, ◌+◌, ◌*◌, ltb};
+ghost use Rattle.refusals.specs.Lines.{refused_by, first_line, line5};
 ghost use Rattle.permutation.specs.Lines.{line1};
 ghost use Rattle.sponge.specs.Marks.{state_in};
 ghost use Rattle.sponge.specs.Outcomes.{line2, line2_mark, line6, line8, line14, line17, blocks_bytes, absorb_number, finish_number, squeeze_number, mark_number, digest_number};
-ghost use Rattle.sponge.specs.leaf.Marks.{found_number};
 
-use crate::sound::{EXTRA_LIMIT, LIMIT, MOST_BLOCKS, is_absorbing, is_closed, is_sound};
+use crate::sound::{EXTRA_LIMIT, LIMIT, MOST_BLOCKS};
 use crate::{State, marks, rate};
-use permutation::lines::{UNKNOWN_INSTANCE, UNKNOWN_WIDTH, is_instance, is_width, state_bytes};
-use refusals::lines::{WRONG_LENGTH, first};
-
-// 2. The state is not sound.
-const UNSOUND_STATE: u32 = 2;
-
-// 3. The state is closed and takes nothing more, or absorbing and gives out no blocks yet.
-const WRONG_PHASE: u32 = 3;
-
-// 6. There are fewer bits than the count says.
-const COUNT_OVER_BYTES: u32 = 6;
-
-// 7. The message would have more than 16,777,215 bits.
-const TOTAL_OVER_LIMIT: u32 = 7;
-
-// 8. The padded message does not end with a whole block.
-const PADDED_LENGTH: u32 = 8;
-
-// 14. The number of blocks asked for is not 1 to 1,024.
-const BLOCKS_OUT_OF_RANGE: u32 = 14;
-
-// 15. The state would have given out more than 1,048,576 extra blocks.
-const EXTRA_OVER_LIMIT: u32 = 15;
-
-// 17. The buffer is not 0 to 1,000 whole marks, or has fewer marks than the count says.
-const WRONG_MARK_BUFFER: u32 = 17;
-
-// 18. No mark in use has the name.
-const NO_SUCH_MARK: u32 = 18;
-
-// 19. Every mark of the buffer is in use.
-const NO_FREE_MARK: u32 = 19;
+use permutation::lines::{is_instance, is_width, state_bytes};
+use refusals::lines::{Line, first};
 
 // Line 6. 8 times the bytes is worked out only where it does not pass the count, so it cannot wrap.
 fn count_over(bytes: usize, count: usize) -> bool
     ensures { result ≡ line6 bytes count }
 {
-    if count / 8 < bytes {
-        return false;
-    }
-    8 * bytes < count
+    count / 8 >= bytes && 8 * bytes < count
 }
 
 // Lines 7 and 15: whether a number and what is added to it are over a limit. What is added is tested by itself first, so the sum cannot wrap.
 fn sum_over(number: u32, more: usize, limit: u32) -> bool
     ensures { result ≡ ltb limit (number + more) }
 {
+    // No `usize::from`: there is none of a u32, and `as` loses nothing.
     let most = limit as usize;
-    if more > most {
-        return true;
-    }
-    number as usize + more > most
+    more > most || number as usize + more > most
 }
 
 // Line 8, from the padded length total + 1 + (r - 1 - total mod r) modulo r. The total goes in by its remainder, so the sum cannot wrap.
@@ -94,96 +59,104 @@ fn marks_off(bytes: usize, count: usize) -> bool
     (bytes > marks::MOST_BYTES) | (bytes % marks::SIZE != 0) | (count > bytes / marks::SIZE)
 }
 
-// The first of lines 1, 2, 3, 4, 6 and 7 that holds for a piece; 0 where none does.
-pub fn absorb_line(state: State, width: u32, bytes: usize, count: usize) -> u32
-    ensures { result ≡ absorb_number state width bytes count }
+// Refuses a piece by the first of lines 1, 2, 3, 4, 6 and 7 that holds.
+pub fn absorb_line(state: State, width: u32, bytes: usize, count: usize) -> Result<(), Line>
+    ensures { refused_by result ≡ absorb_number state width bytes count }
 {
-    let number = first(sum_over(state.total, count, LIMIT), TOTAL_OVER_LIMIT, 0);
-    let number = first(count_over(bytes, count), COUNT_OVER_BYTES, number);
-    let number = first(!is_width(state.instance, width), UNKNOWN_WIDTH, number);
-    let number = first(is_closed(state), WRONG_PHASE, number);
-    let number = first(!is_sound(state), UNSOUND_STATE, number);
-    first(!is_instance(state.instance), UNKNOWN_INSTANCE, number)
+    first(&[
+        (!is_instance(state.instance), Line::UnknownInstance),
+        (!state.is_sound(), Line::UnsoundState),
+        (state.is_closed(), Line::WrongPhase),
+        (!is_width(state.instance, width), Line::UnknownWidth),
+        (count_over(bytes, count), Line::CountOverBytes),
+        (sum_over(state.total, count, LIMIT), Line::TotalOverLimit),
+    ])
 }
 
-// The first of lines 1, 2, 3, 4, 5 and 8 that holds for a finish; 0 where none does.
-pub fn finish_line(state: State, width: u32, buffer: usize) -> u32
-    ensures { result ≡ finish_number state width buffer }
+// Refuses a finish by the first of lines 1, 2, 3, 4, 5 and 8 that holds.
+pub fn finish_line(state: State, width: u32, buffer: usize) -> Result<(), Line>
+    ensures { refused_by result ≡ finish_number state width buffer }
 {
-    let number = first(
-        padding_off(state.instance, state.total as usize),
-        PADDED_LENGTH,
-        0,
-    );
-    let number = first(buffer != state_bytes(state.instance), WRONG_LENGTH, number);
-    let number = first(!is_width(state.instance, width), UNKNOWN_WIDTH, number);
-    let number = first(is_closed(state), WRONG_PHASE, number);
-    let number = first(!is_sound(state), UNSOUND_STATE, number);
-    first(!is_instance(state.instance), UNKNOWN_INSTANCE, number)
+    first(&[
+        (!is_instance(state.instance), Line::UnknownInstance),
+        (!state.is_sound(), Line::UnsoundState),
+        (state.is_closed(), Line::WrongPhase),
+        (!is_width(state.instance, width), Line::UnknownWidth),
+        (buffer != state_bytes(state.instance), Line::WrongLength),
+        (
+            // as in `sum_over`
+            padding_off(state.instance, state.total as usize),
+            Line::PaddedLength,
+        ),
+    ])
 }
 
-// The first of lines 1, 2, 3, 4, 5, 14 and 15 that holds for a squeeze; 0 where none does.
-pub fn squeeze_line(state: State, width: u32, k: usize, buffer: usize) -> u32
-    ensures { result ≡ squeeze_number state width k buffer }
+// Refuses a squeeze by the first of lines 1, 2, 3, 4, 5, 14 and 15 that holds.
+pub fn squeeze_line(state: State, width: u32, k: usize, buffer: usize) -> Result<(), Line>
+    ensures { refused_by result ≡ squeeze_number state width k buffer }
 {
-    let number = first(sum_over(state.extra, k, EXTRA_LIMIT), EXTRA_OVER_LIMIT, 0);
-    let number = first(out_of_range(k), BLOCKS_OUT_OF_RANGE, number);
-    let number = first(blocks_off(state.instance, k, buffer), WRONG_LENGTH, number);
-    let number = first(!is_width(state.instance, width), UNKNOWN_WIDTH, number);
-    let number = first(is_absorbing(state), WRONG_PHASE, number);
-    let number = first(!is_sound(state), UNSOUND_STATE, number);
-    first(!is_instance(state.instance), UNKNOWN_INSTANCE, number)
+    first(&[
+        (!is_instance(state.instance), Line::UnknownInstance),
+        (!state.is_sound(), Line::UnsoundState),
+        (state.is_absorbing(), Line::WrongPhase),
+        (!is_width(state.instance, width), Line::UnknownWidth),
+        (blocks_off(state.instance, k, buffer), Line::WrongLength),
+        (out_of_range(k), Line::BlocksOutOfRange),
+        (sum_over(state.extra, k, EXTRA_LIMIT), Line::ExtraOverLimit),
+    ])
 }
 
-// The first of lines 1, 2 and 17 that holds for a state, and for a buffer of marks with `count` in use; where none does, what the lines after
-// them give.
-pub fn front_line(state: State, bytes: usize, count: usize, rest: u32) -> u32
-    ensures { result ≡ first_line ((line1 state.instance, 1) ∷ (line2 state, 2) ∷ (line17 bytes count, 17) ∷ (true, rest) ∷ []) }
+// Refuses a marking by the first of lines 1, 2, 17 and 19 that holds.
+pub fn mark_line(state: State, bytes: usize, count: usize) -> Result<(), Line>
+    ensures { refused_by result ≡ mark_number state bytes count }
 {
-    let number = first(marks_off(bytes, count), WRONG_MARK_BUFFER, rest);
-    let number = first(!is_sound(state), UNSOUND_STATE, number);
-    first(!is_instance(state.instance), UNKNOWN_INSTANCE, number)
+    first(&[
+        (!is_instance(state.instance), Line::UnknownInstance),
+        (!state.is_sound(), Line::UnsoundState),
+        (marks_off(bytes, count), Line::WrongMarkBuffer),
+        (bytes / marks::SIZE <= count, Line::NoFreeMark),
+    ])
 }
 
-// The first of lines 1, 2, 17 and 19 that holds for a marking; 0 where none does.
-pub fn mark_line(state: State, bytes: usize, count: usize) -> u32
-    ensures { result ≡ mark_number state bytes count }
+// Refuses a return by the first of lines 1, 2 and 17 that holds, before the buffer is read.
+pub fn recall_line(state: State, bytes: usize, count: usize) -> Result<(), Line>
+    ensures { refused_by result ≡ first_line ((line1 state.instance, 1) ∷ (line2 state, 2) ∷ (line17 bytes count, 17) ∷ []) }
 {
-    let number = first(bytes / marks::SIZE <= count, NO_FREE_MARK, 0);
-    front_line(state, bytes, count, number)
+    first(&[
+        (!is_instance(state.instance), Line::UnknownInstance),
+        (!state.is_sound(), Line::UnsoundState),
+        (marks_off(bytes, count), Line::WrongMarkBuffer),
+    ])
 }
 
-// The first of lines 1 and 2 that holds for a mark; 0 where none does.
-fn line_of_mark(mark: &[u8]) -> u32
-    requires { length mark.now ≡ 64 }
-    ensures { result ≡ first_line ((line1 (state_in mark.now).instance, 1) ∷ (line2_mark mark.now, 2) ∷ []) }
+// Refuses a return to a mark by the first of lines 1 and 2 that holds for it.
+pub fn found_line(mark: &[u8; marks::SIZE]) -> Result<(), Line>
+    ensures { refused_by result ≡ first_line ((line1 (state_in mark.now).instance, 1) ∷ (line2_mark mark.now, 2) ∷ []) }
 {
     let state = marks::state_in(mark);
-    let sound = marks::ends_in_zeros(mark) & is_sound(state);
-    let number = first(!sound, UNSOUND_STATE, 0);
-    first(!is_instance(state.instance), UNKNOWN_INSTANCE, number)
+    let sound = marks::ends_in_zeros(mark) & state.is_sound();
+    first(&[
+        (!is_instance(state.instance), Line::UnknownInstance),
+        (!sound, Line::UnsoundState),
+    ])
 }
 
-// The first of line 18, and lines 1 and 2 of the last of the first `upto` marks, that holds; 0 where none does. There is no such mark where
-// `upto` is 0.
-pub fn found_line(buffer: &[u8], upto: usize) -> u32
-    requires { 64 * upto ≤ length buffer.now }
-    ensures { result ≡ found_number buffer.now upto }
+// Refuses a whole digest by the first of lines 1, 4, 5, 6, 7 and 8 that holds.
+pub fn digest_line(
+    instance: u32,
+    width: u32,
+    bytes: usize,
+    count: usize,
+    buffer: usize,
+) -> Result<(), Line>
+    ensures { refused_by result ≡ digest_number instance width bytes count buffer }
 {
-    if upto == 0 {
-        return NO_SUCH_MARK;
-    }
-    line_of_mark(marks::mark_at(buffer, upto - 1))
-}
-
-// The first of lines 1, 4, 5, 6, 7 and 8 that holds for a whole digest; 0 where none does.
-pub fn digest_line(instance: u32, width: u32, bytes: usize, count: usize, buffer: usize) -> u32
-    ensures { result ≡ digest_number instance width bytes count buffer }
-{
-    let number = first(padding_off(instance, count), PADDED_LENGTH, 0);
-    let number = first(sum_over(0, count, LIMIT), TOTAL_OVER_LIMIT, number);
-    let number = first(count_over(bytes, count), COUNT_OVER_BYTES, number);
-    let number = first(buffer != state_bytes(instance), WRONG_LENGTH, number);
-    let number = first(!is_width(instance, width), UNKNOWN_WIDTH, number);
-    first(!is_instance(instance), UNKNOWN_INSTANCE, number)
+    first(&[
+        (!is_instance(instance), Line::UnknownInstance),
+        (!is_width(instance, width), Line::UnknownWidth),
+        (buffer != state_bytes(instance), Line::WrongLength),
+        (count_over(bytes, count), Line::CountOverBytes),
+        (sum_over(0, count, LIMIT), Line::TotalOverLimit),
+        (padding_off(instance, count), Line::PaddedLength),
+    ])
 }

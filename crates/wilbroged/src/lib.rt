@@ -1,6 +1,6 @@
 // The functions of this project for a C host: numbers and byte slices in, a number out, and for `quark_steps` a second number through a
 // pointer. A slice is two arguments in C, the pointer and the length. No function keeps a state of its own. include/wilbroged.h declares
-// them; the lines' numbers are those of docs/RULES.md.
+// them; the lines' numbers are those of docs/RULES.md. Between usize and u64 there is no `From`.
 #![tactic(auto)]
 
 ghost use Rattle.std.specs.Prelude.{◌≡◌};

@@ -3,7 +3,6 @@ ghost use Rattle.std.specs.Prelude.{◌≡◌};
 ghost use Rattle.refusals.specs.Outcome.{number_of, value_or};
 ghost use Rattle.permutation.specs.Steps.{registers_after, registers_before, steps_outcome, steps_back_outcome, steps_bytes};
 
-use permutation::Stepped;
 use refusals::number_of;
 
 // Overwrites the bits of an instance's state with those after `count` steps of P from L's start value l, and writes L after them to
@@ -22,13 +21,12 @@ pub extern "C" fn quark_steps(
     ensures bytes { state.new ≡ steps_bytes registers_after instance width l count state.old }
     ensures after { l_after.new ≡ value_or (steps_outcome instance width l count state.old) l_after.old }
 {
-    let stepped = permutation::steps(instance, width, l, count, state);
-    match stepped {
-        Stepped::L(after) => {
+    match permutation::steps(instance, width, l, count, state) {
+        Ok(after) => {
             *l_after = after;
             0
         }
-        Stepped::Refused(refusal) => refusal.number,
+        Err(refusal) => refusal.line.number(),
     }
 }
 

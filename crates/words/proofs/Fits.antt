@@ -1,18 +1,18 @@
 -- Calls that fit: the test says what the groups need, and the other way round. A register of two words is below 2 ^ (64 + k) where its high
 -- word is below 2 ^ k.
 use mathlib.Core.Bool.{Bool, true, false, not, cond, ◌&&◌, and-eq-true_iff}
-use mathlib.Core.Path.{◌≡◌, refl, sym, ◌∙◌, subst}
+use mathlib.Core.Path.{◌≡◌, refl, sym, subst}
 use Prim.Native.Nat.{ℕ, ◌+◌, ◌*◌, ◌%◌, ◌^◌, ◌<◌, ◌≤◌}
 use native.Mathlib.Nat.{le_trans, le-add_right, mul-le-mul_right}
-use borrow.Author.Tests.{eqb-true, eqb-false, eq-eqb, ne_eqb, not-true, not-false, ltb-true, ltb-false, lt-ltb, le-ltb}
+use borrow.Author.Tests.{eqb-true, eqb-false, eq-eqb, ne_eqb, not-true, ltb-true, ltb-false, lt-ltb, le-ltb}
 use lib.Arith.{digits_lt}
 use lib.Dec.{eqb, ltb}
 use lib.Pow.{pow-add}
 use Rattle.quark.specs.Instance.{instance_of, is_instance, is_width}
 use Rattle.words.specs.declared.RegisterWords.{RegisterWords}
 use Rattle.words.specs.Words.{value, fits}
-use Rattle.words.specs.leaf.Groups.{WidthOf, Fitting}
-use Rattle.words.proofs.Widths.{width_fits, some_width, several}
+use Rattle.words.specs.leaf.Groups.{Fitting}
+use Rattle.words.proofs.Widths.{WidthOf, width_fits, some_width, several}
 
 -- ---- the test of a call
 
@@ -22,7 +22,7 @@ pub record Fits (i w n : ℕ) (s : RegisterWords) : Type 0 where
   pub width : is_width i w ≡ true
   pub more : w ≡ 1 → ⊥
   pub whole : n % w ≡ 0
-  pub words : Fitting (instance_of i).taps s.x s.y s.l
+  pub words : Fitting (instance_of i).taps s
 
 pub tested_fits : (i w n : ℕ) (s : RegisterWords) → fits i w n s ≡ true → Fits i w n s
 unfolding fits
@@ -66,22 +66,16 @@ fits-tested i w n s f =
       lt-ltb s.l 1024 f.words.fits_L,
     )
 
--- a call that was tested
-pub passed : (i w n : ℕ) (s : RegisterWords) {b : Bool} → b ≡ fits i w n s → not b ≡ false → Fits i w n s
-passed i w n s {b} e left = tested_fits i w n s (sym e ∙ not-false b left)
-
 pub fits_width : {i w n : ℕ} {s : RegisterWords} → Fits i w n s → WidthOf i w
 fits_width {i} {w} f = several i w f.width f.more
 
-pub fits-some : {i w n : ℕ} {s : RegisterWords} → Fits i w n s → 0 < w
-fits-some {i} {w} f = (width_fits w (some_width i w (fits_width f))).0
+-- a width of an instance that is not 1 is above 0
+pub some_steps : (i w : ℕ) → is_width i w ≡ true → (w ≡ 1 → ⊥) → 0 < w
+some_steps i w e more = (width_fits w (some_width i w (several i w e more))).0
 
--- what comes back of a call that fits, and of one that does not
+-- what comes back of a call that fits
 pub fits-answer : (i w n : ℕ) (s : RegisterWords) {r after : RegisterWords} → Fits i w n s → r ≡ after → r ≡ cond (fits i w n s) after s
 fits-answer i w n s f e = rw (fits-tested i w n s f) e
-
-pub else_answer : (i w n : ℕ) (s after : RegisterWords) {b : Bool} → b ≡ fits i w n s → not b ≡ true → s ≡ cond (fits i w n s) after s
-else_answer i w n s after {b} e taken = rw (sym e ∙ not-true b taken)
 
 -- ---- a register of two words
 

@@ -1,29 +1,25 @@
 -- A group of w steps on registers that are words: each moves down by w, and its new bits are those of f, g and h.
 use mathlib.Core.List.{List, ◌++◌}
 use mathlib.Core.Path.{◌≡◌, refl, sym, ap, ap₂, ◌∙◌, subst}
-use Prim.Native.Nat.{ℕ, ◌+◌, ◌*◌, ◌/◌, ◌^◌, ◌<◌}
+use Prim.Native.Nat.{ℕ, ◌+◌, ◌*◌, ◌/◌, ◌%◌, ◌^◌, ◌<◌}
 use native.Mathlib.Nat.{add_comm}
-use native.Mathlib.Omega.{arith}
 use lib.Arith.{digits_lt}
 use lib.ListN.{drop}
 use lib.Pow.{pow-add, shr_lt}
 use Rattle.quark.specs.Bytes.{tabulate}
-use Rattle.quark.specs.Feedback.{Taps, h}
+use Rattle.quark.specs.Feedback.{Taps}
 use Rattle.quark.specs.Step.{Registers}
 use Rattle.quark.specs.Word.{word_bit, word_bits}
 use Rattle.quark.specs.Together.{gain_X, gain_Y, gains, moved}
 use Rattle.quark.proofs.Together.{registers-path, steps-together}
 use Rattle.quark.proofs.Word.{length-word_bits, move_word_bits}
-use Rattle.words.specs.declared.Register.{Register}
 use Rattle.words.specs.declared.RegisterWords.{RegisterWords}
-use Rattle.words.specs.declared.feedback.StepBits.{StepBits}
-use Rattle.words.specs.declared.masks.Masks.{Masks}
-use Rattle.words.specs.Words.{value, word_registers}
-use Rattle.words.specs.leaf.FeedbackWords.{in_step, ProductBits, Masking, mask_sum, pack}
-use Rattle.words.specs.leaf.Groups.{Fitting, Stepped, SteppedL, AfterGroup}
-use Rattle.words.proofs.FeedbackWords.{FeedbackBits, feedback-bits}
-use Rattle.words.proofs.Gained.{Grouping, gained-x, gained-y}
-use Rattle.words.proofs.LSequence.{Firsts}
+use Rattle.words.specs.declared.feedback.Feedback.{Feedback}
+use Rattle.words.specs.Words.{value, word_registers, registers_of}
+use Rattle.words.specs.leaf.FeedbackWords.{in_step, FeedbackBits}
+use Rattle.words.specs.leaf.Groups.{Firsts, Fitting, Stepped, SteppedL, AfterGroup}
+use Rattle.words.proofs.Gained.{gained-x, gained-y}
+use Rattle.words.specs.leaf.TapsOf.{Grouping}
 use Rattle.words.proofs.MovedUp.{tabulate-word}
 
 -- ---- one register
@@ -43,44 +39,41 @@ down_moved half n new p w b e less same =
 
 -- ---- both registers
 
-module _ {T : Taps} {w kept : ℕ} (G : Grouping T w kept) {x y : Register} {l : ℕ} (fitting : Fitting T x y l) (word : ℕ) (firsts : Firsts w (word_bits 10 l) word)
-    {m : Masks} (masking : Masking T m) {products : StepBits} (bits : (k : ℕ) → k < 64 → ProductBits T x y products k) (hBits : ℕ)
-    (eh : (k : ℕ) → k < 64 → word_bit hBits k ≡ h T (in_step k x) (in_step k y) (λ i. word_bit word k)) {s : RegisterWords}
-    (after : AfterGroup x y products hBits m kept w s) where
-  words : FeedbackBits T w x y products (record { x = pack (mask_sum (value x) (value m.f)) w; y = pack (mask_sum (value y) (value m.g)) w }) hBits word
-  words = feedback-bits hBits word G.few masking (record { over_X = refl; over_Y = refl }) bits eh
-
+module _ {T : Taps} {w kept : ℕ} (G : Grouping T w kept) {s : RegisterWords} (fitting : Fitting T s) (word : ℕ) (firsts : Firsts w (word_bits 10 s.l) word)
+    {words : Feedback} (bits : FeedbackBits T w s.x s.y word words) {t : RegisterWords} (after : AfterGroup s words kept w t) where
   start : Registers
-  start = word_registers T (value x) (value y) l
+  start = registers_of T s
 
   new-x : (j : ℕ) → j < w → gains gain_X T start j ≡ word_bit after.new.x j
   unfolding start gain_X
   new-x j less =
-      let ef = words.of_F j less in
-      let e = words.of_H j less in
-      gained-x G (value x) (value y) l word firsts j less ∙ omega arith ∙ sym (after.bit_X j less)
+      gained-x G (value s.x) (value s.y) s.l word firsts j less
+      ∙ ap₂ (λ (m n : ℕ). (in_step j s.y 0 + m + n) % 2) (sym (bits.of_F j less)) (sym (bits.of_H j less))
+      ∙ sym (after.bit_X j less)
 
   new-y : (j : ℕ) → j < w → gains gain_Y T start j ≡ word_bit after.new.y j
   unfolding start gain_Y
   new-y j less =
-      let eg = words.of_G j less in
-      let e = words.of_H j less in
-      gained-y G (value x) (value y) l word firsts j less ∙ omega arith ∙ sym (after.bit_Y j less)
+      gained-y G (value s.x) (value s.y) s.l word firsts j less
+      ∙ ap₂ (λ (m n : ℕ). (m + n) % 2) (sym (bits.of_G j less)) (sym (bits.of_H j less))
+      ∙ sym (after.bit_Y j less)
 
   -- a state that holds the registers so moved, and L after w steps, is w steps on
-  pub group_steps : {next : ℕ} → s.l ≡ next → SteppedL w l next → Stepped T w x y l s
+  pub group_steps : {next : ℕ} → t.l ≡ next → SteppedL w s.l next → Stepped T w s t
   unfolding start word_registers moved
   group_steps e el =
       let half = T.half in
+      let x = value s.x in
+      let y = value s.y in
       record {
         fitting = record {
-          fits_X = subst (λ (n : ℕ). n < 2 ^ half) (sym after.moved_X) (down_lt half (value x) after.new.x kept w G.whole after.few_X fitting.fits_X);
-          fits_Y = subst (λ (n : ℕ). n < 2 ^ half) (sym after.moved_Y) (down_lt half (value y) after.new.y kept w G.whole after.few_Y fitting.fits_Y);
+          fits_X = subst (λ (n : ℕ). n < 2 ^ half) (sym after.moved_X) (down_lt half x after.new.x kept w G.whole after.few_X fitting.fits_X);
+          fits_Y = subst (λ (n : ℕ). n < 2 ^ half) (sym after.moved_Y) (down_lt half y after.new.y kept w G.whole after.few_Y fitting.fits_Y);
           fits_L = subst (λ (n : ℕ). n < 1024) (sym e) el.fits;
         };
         stepped =
             registers-path (ap (word_bits half) after.moved_X) (ap (word_bits half) after.moved_Y) (ap (word_bits 10) e ∙ el.stepped)
-            ∙ sym (steps-together T G.lawful w G.reach start (length-word_bits half (value x)) (length-word_bits half (value y))
-            ∙ registers-path (down_moved half (value x) after.new.x kept w (gains gain_X T start) G.whole fitting.fits_X new-x)
-            (down_moved half (value y) after.new.y kept w (gains gain_Y T start) G.whole fitting.fits_Y new-y) refl);
+            ∙ sym (steps-together T G.lawful w G.reach start (length-word_bits half x) (length-word_bits half y)
+            ∙ registers-path (down_moved half x after.new.x kept w (gains gain_X T start) G.whole fitting.fits_X new-x)
+            (down_moved half y after.new.y kept w (gains gain_Y T start) G.whole fitting.fits_Y new-y) refl);
       }

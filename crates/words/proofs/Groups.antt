@@ -13,6 +13,8 @@ use Rattle.quark.proofs.Inverse.{undo_steps_lem}
 use Rattle.quark.proofs.Taps.{Lawful}
 use Rattle.quark.proofs.Together.{registers-path, steps-add, steps_L-add}
 use Rattle.words.specs.declared.RegisterWords.{RegisterWords}
+use Rattle.words.specs.declared.instances.Instance.{Instance}
+use Rattle.words.specs.Instances.{named}
 use Rattle.words.specs.Words.{value, word_registers, registers_of, in_words, words_after, words_before}
 use Rattle.words.specs.leaf.Groups.{Width, Fitting, Stepped, SteppedL, PrecedingL, Preceding}
 use Rattle.words.proofs.InWords.{sized_words, words_held}
@@ -57,16 +59,7 @@ L-back_composes = record {
 }
 
 -- registers in words, forward and back
-abbrev pub FittingWords : Taps → RegisterWords → Type 0
-FittingWords T s = Fitting T s.x s.y s.l
-
-abbrev pub Forward : Taps → ℕ → RegisterWords → RegisterWords → Type 0
-Forward T n s t = Stepped T n s.x s.y s.l t
-
-abbrev pub Back : Taps → ℕ → RegisterWords → RegisterWords → Type 0
-Back T n s t = Preceding T n s.x s.y s.l t
-
-pub forward_composes : (T : Taps) → Composes (FittingWords T) (Forward T)
+pub forward_composes : (T : Taps) → Composes (Fitting T) (Stepped T)
 unfolding steps
 forward_composes T = record {
   none = λ s words. record { fitting = words; stepped = refl };
@@ -76,7 +69,7 @@ forward_composes T = record {
   };
 }
 
-pub back-composes : (T : Taps) → Composes (FittingWords T) (Back T)
+pub back-composes : (T : Taps) → Composes (Fitting T) (Preceding T)
 unfolding steps
 back-composes T = record {
   none = λ s words. record { fitting = words; redone = refl };
@@ -95,6 +88,16 @@ back-composes T = record {
 pub whole-groups : (n w : ℕ) → n % w ≡ 0 → n / w * w ≡ n
 whole-groups n w e = sym (add-zero (n / w * w)) ∙ ap (λ (r : ℕ). n / w * w + r) (sym e) ∙ div-add-mod' n w
 
+-- so what is shown of the groups of an instance is shown of the steps of its name, and what is known of the name is known of the instance
+pub from_name : (P : Taps → ℕ → Type 0) {given name : Instance} → given ≡ name → (n w v : ℕ) → w ≡ v → n % w ≡ 0 → P (named name).taps (n / v * v)
+    → P (named given).taps n
+from_name P {given} {name} e n w v ev whole shown =
+    subst (λ (I : Instance). P (named I).taps n) (sym e)
+    (subst (P (named name).taps) (whole-groups n v (subst (λ (u : ℕ). n % u ≡ 0) ev whole)) shown)
+
+pub for_name : (P : Taps → Type 0) {given name : Instance} → given ≡ name → P (named given).taps → P (named name).taps
+for_name P e known = subst (λ (I : Instance). P (named I).taps) e known
+
 -- they are whole eights too, for L
 pub whole-eights : (w n : ℕ) → Width w → n % w ≡ 0 → n / 8 * 8 ≡ n
 whole-eights w n = ⊎_elim eight sixteen
@@ -112,13 +115,13 @@ whole-eights w n = ⊎_elim eight sixteen
 -- ---- the definition's words, some steps on or before
 
 -- words that are those of a state n steps on
-pub stepped-words : (T : Taps) (n : ℕ) (s t : RegisterWords) → t.x.lo < 2 ^ 64 → t.y.lo < 2 ^ 64 → Forward T n s t → t ≡ words_after T n s
+pub stepped-words : (T : Taps) (n : ℕ) (s t : RegisterWords) → t.x.lo < 2 ^ 64 → t.y.lo < 2 ^ 64 → Stepped T n s t → t ≡ words_after T n s
 unfolding words_after
 stepped-words T n s t x y a = sym (words_held T t x y a.fitting) ∙ ap in_words a.stepped
 
 -- words whose n steps lead to X and Y of a state, and to L's value after n steps from the state's
 pub undone_words : (T : Taps) → Lawful T → (n : ℕ) (s t : RegisterWords) (after : ℕ) → t.x.lo < 2 ^ 64 → t.y.lo < 2 ^ 64
-    → SteppedL n s.l after → Preceding T n s.x s.y after t → t ≡ words_before T n s
+    → SteppedL n s.l after → Preceding T n (record { x = s.x; y = s.y; l = after }) t → t ≡ words_before T n s
 unfolding word_registers words_before
 undone_words T lawful n s t after x y e a =
     let found = registers_of T t in

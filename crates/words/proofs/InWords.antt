@@ -41,7 +41,7 @@ module _ (T : Taps) where
   sized_words x y l = record { wide_X = wide_word_bits T.half x; wide_Y = wide_word_bits T.half y; wide_L = wide_word_bits 10 l }
 
   -- words that fit are those of the registers that they hold
-  pub words_held : (s : RegisterWords) → s.x.lo < 2 ^ 64 → s.y.lo < 2 ^ 64 → Fitting T s.x s.y s.l → in_words (registers_of T s) ≡ s
+  pub words_held : (s : RegisterWords) → s.x.lo < 2 ^ 64 → s.y.lo < 2 ^ 64 → Fitting T s → in_words (registers_of T s) ≡ s
   unfolding word_registers in_words
   words_held s x y fitting =
       let ex = two_words_lem T.half s.x x fitting.fits_X in
@@ -51,7 +51,7 @@ module _ (T : Taps) where
 
   -- registers are those that their words hold, and these fit
   abbrev pub Held : RegisterWords → Registers → Type 0
-  Held t s = (registers_of T t ≡ s) × Fitting T t.x t.y t.l
+  Held t s = (registers_of T t ≡ s) × Fitting T t
 
   held_words : (s : Registers) → Sized T s → Held (in_words s) s
   unfolding word_registers in_words

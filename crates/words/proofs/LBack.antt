@@ -11,7 +11,8 @@ use lib.Pow.{pow_pos, shr_le, shr_lt}
 use Rattle.quark.specs.Step.{steps_L}
 use Rattle.quark.specs.Word.{word_bit, word_bits}
 use Rattle.quark.proofs.Word.{word_bit-lt, word_bit-xor, word_bit-shr, word_bit-mod, length-word_bits}
-use Rattle.words.proofs.LSequence.{length-steps_L, sequence, sequence-later, recurs, onwards, Firsts, first_bit, ten_firsts}
+use Rattle.words.specs.leaf.Groups.{Firsts}
+use Rattle.words.proofs.LSequence.{length-steps_L, sequence, sequence-later, recurs, onwards, first_bit, ten_firsts}
 use Rattle.words.proofs.MovedUp.{past_end, low_bit, high_bit}
 
 -- ---- a byte that is to be the sum of another and of that moved down by three

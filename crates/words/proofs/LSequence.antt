@@ -16,6 +16,7 @@ use Rattle.quark.specs.Step.{shift, step_L, steps_L}
 use Rattle.quark.specs.Word.{word_bit, word_bits}
 use Rattle.quark.proofs.Together.{steps_L-add}
 use Rattle.quark.proofs.Word.{word_bit-xor, word_bit-shr, word_bit-mod, length-word_bits, get_or-word_bits}
+use Rattle.words.specs.leaf.Groups.{Firsts}
 use Rattle.words.proofs.MovedUp.{below, joined_bits}
 
 -- ---- a sequence in which bit k + n is the sum of the bits k and k + t
@@ -116,10 +117,6 @@ recurs r e k =
     ∙ ap (λ (y : ℕ). (sequence r k + y) % 2) (later-bit r e k 3 (omega arith))
 
 -- ---- words of its bits
-
--- the word of L's first bits in w steps
-abbrev pub Firsts : ℕ → List ℕ → ℕ → Type 0
-Firsts w r word = (k : ℕ) → k < w → sequence r k ≡ word_bit word k
 
 -- ten are L
 pub first_bit : (n : ℕ) → Firsts 10 (word_bits 10 n) n

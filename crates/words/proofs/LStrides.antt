@@ -12,10 +12,10 @@ use Rattle.quark.specs.Step.{steps_L}
 use Rattle.quark.specs.Word.{word_bits}
 use Rattle.quark.proofs.Together.{steps_L-add}
 use Rattle.quark.proofs.Word.{word_bit-mod, length-word_bits}
-use Rattle.words.specs.leaf.Groups.{SteppedL}
+use Rattle.words.specs.leaf.Groups.{Firsts, SteppedL}
 use Rattle.words.proofs.Groups.{L-composes}
-use Rattle.words.proofs.LSequence.{Recurs, doubled, length-steps_L, sequence, recurs, Firsts, first_bit, ten_firsts, firsts_joined, firsts_further}
-use Rattle.words.proofs.MovedUp.{up_lt, low_bit}
+use Rattle.words.proofs.LSequence.{Recurs, doubled, length-steps_L, sequence, recurs, first_bit, ten_firsts, firsts_joined, firsts_further}
+use Rattle.words.proofs.MovedUp.{up_lt}
 
 pub firsts_eight : (l : ℕ) → Firsts 8 (word_bits 10 l) l
 firsts_eight l k h = first_bit l k (omega arith)
@@ -23,11 +23,6 @@ firsts_eight l k h = first_bit l k (omega arith)
 -- a word's low digits are its first bits
 firsts_low : (r : List ℕ) (w word : ℕ) → Firsts w r word → Firsts w r (word % 2 ^ w)
 firsts_low r w word first k h = first k h ∙ sym (word_bit-mod word w k h)
-
--- eight, whatever stands above them
-pub firsts_eight_under : (l above : ℕ) → Firsts 8 (word_bits 10 l) (above * 2 ^ 8 + l % 2 ^ 8)
-firsts_eight_under l above k h =
-    firsts_low (word_bits 10 l) 8 l (firsts_eight l) k h ∙ sym (low_bit above 8 (l % 2 ^ 8) k (mod-lt l (pow_pos 8)) h)
 
 -- sixteen: the first eight bits of L, and of L eight steps on
 pub firsts_sixteen : (l next : ℕ) → word_bits 10 next ≡ steps_L 8 (word_bits 10 l) → Firsts 16 (word_bits 10 l) (next * 2 ^ 8 + l % 2 ^ 8)

@@ -14,6 +14,5 @@ pub mod FeedbackWords
 pub mod Gained
 pub mod GroupForward
 pub mod Solving
-pub mod LowTaps
 pub mod NewBits
 pub mod GroupBack

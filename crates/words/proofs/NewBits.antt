@@ -16,10 +16,10 @@ use Rattle.quark.proofs.Feedback.{feedback-first, sum_at_cong, first-at_zero}
 use Rattle.quark.proofs.Taps.{All, all_at, all_map, Lawful}
 use Rattle.quark.proofs.Word.{word_bit-shr}
 use Rattle.words.specs.declared.back.LowTaps.{LowTaps}
-use Rattle.words.specs.leaf.FeedbackWords.{products, products_at, linear_taps, mixes}
+use Rattle.words.specs.leaf.FeedbackWords.{products, products_at, linear_taps, mixes, mixed_taps}
 use Rattle.words.specs.leaf.Solving.{products_derivative, products_derivative_at, mixes_derivative}
 use Rattle.words.proofs.FeedbackWords.{feedback-split, h-split}
-use Rattle.words.proofs.LowTaps.{LowTapsOf}
+use Rattle.words.specs.leaf.TapsOf.{LowTapsOf}
 use Rattle.words.proofs.MovedUp.{below, past_end, low_bit, same_above}
 
 -- ---- the bits that are read
@@ -122,7 +122,7 @@ h-more : (T : Taps) (low : LowTaps) (w : ℕ) → LowTapsOf T low w → (X X' Y 
     → ((t : ℕ) → w ≤ t → X t ≡ X' t) → ((t : ℕ) → w ≤ t → Y t ≡ Y' t)
     → X 1 ≡ X' 1 + b → X low.x ≡ X' low.x + c → Y low.y ≡ Y' low.y + d → Y low.h ≡ Y' low.h + e
     → h T X Y L ≡ (h T X' Y' L + b + c + d + e * mixes_derivative (X' T.x_low) (X' T.x_mid) (X' T.x_high) (Y' T.y_high)) % 2
-unfolding sum_at
+unfolding sum_at mixes mixes_derivative mixed_taps
 h-more T low w n X X' Y Y' L b c d e otherX otherY e1 ex ey eh =
     let yl : Y T.y_low ≡ Y' T.y_low + e = subst (λ t. Y t ≡ Y' t + e) (sym n.y_low) eh in
     let xl = otherX T.x_low n.x_low in

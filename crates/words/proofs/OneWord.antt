@@ -2,12 +2,12 @@
 -- of two words.
 use mathlib.Core.Path.{◌≡◌, refl, sym, ap, ap₂, ◌∙◌}
 use Prim.Native.Nat.{ℕ, zero, suc, ◌+◌, ◌*◌, ◌-◌, ◌/◌, ◌%◌, ◌^◌, ◌≤◌, ◌<◌}
-use native.Mathlib.Nat.{add-zero, zero-add, suc-add, zero-mul, add_comm, add_assoc, mul_assoc, add-mul, mod-lt, mod-eq_of_lt, div-eq_of_lt, div-one, zero-div, lt_of_le_of_lt, lt_of_lt_of_le}
+use native.Mathlib.Nat.{add-zero, zero-add, suc-add, zero-mul, add_comm, add_assoc, mul_assoc, add-mul, mod-lt, mod-eq_of_lt, div-eq_of_lt, zero-div, lt_of_le_of_lt, lt_of_lt_of_le}
 use native.Mathlib.Omega.{arith}
 use lib.Bits.{bit_and, and_block, and_le_r, and_mod, and_mask}
 use lib.Count.{ones, ones_cat}
 use lib.Dec.{lit≤, lit<}
-use lib.Pow.{pow_pos, pow_mono, pow-add, pow-lt, add-lt-pow, shl_lt, shr_lt, shr_le, shr-shr, low, split, field, mod-mod-pow}
+use lib.Pow.{pow_pos, pow_mono, pow-add, pow-lt, add-lt-pow, shl_lt, shr_lt, shr_le, shr-shr, split, field, mod-mod-pow}
 use Rattle.quark.specs.Feedback.{sum_at}
 use Rattle.quark.specs.Word.{word_bit}
 use Rattle.quark.specs.leaf.Places.{places_from}
@@ -56,10 +56,6 @@ tap_apart n m k h =
     ∙ ones_cat k (bit_and (n / 2 ^ k) m) (n % 2 ^ k % 2) (lt_of_lt_of_le (mod-lt (n % 2 ^ k) (lit< tt)) (pow_mono h))
 
 -- ---- the sums of a register and of its words
-
--- a register moved up by w has w zeros in front
-pub moved-zeros : (w n : ℕ) {v : ℕ} → v ≡ n * 2 ^ w + 0 → v % 2 ^ w ≡ 0
-moved-zeros w n e = ap (λ (x : ℕ). x % 2 ^ w) e ∙ low n w (pow_pos w)
 
 module _ (n mask first : ℕ) (narrow : OneWord mask first) (zeros : n % 2 ^ 8 ≡ 0) where
   -- the mask from `first` on
@@ -174,10 +170,6 @@ module _ (later word mask : ℕ) where
   sums_from_lt j bits h e =
       let a : later * 2 ^ (4 - j) < 2 ^ 8 = lt_of_lt_of_le (shl_lt 4 (4 - j) h) (pow_mono {j = 8} (omega arith)) in
       rw e (add-lt-pow 8 a (lt_of_le_of_lt (shr_le sums j) (lt_of_lt_of_le sums_lt (lit≤ tt))))
-
-  pub sums_from_all : (j bits : ℕ) → j ≡ 0 → SumsFrom later word mask j bits → bits ≡ later * 16 + pack (mask_sum word mask) 4
-  unfolding sums
-  sums_from_all j bits none e = e ∙ ap (λ (x : ℕ). later * 2 ^ (4 - x) + sums / 2 ^ x) none ∙ ap (λ (x : ℕ). later * 16 + x) (div-one sums)
 
   -- the sum of step i, of a register that is one word, moved down
   pub one_word : (i b : ℕ) → b ≡ sum_at (word_bit (0 * 2 ^ 64 + word / 2 ^ i)) (places_from 128 0 (0 * 2 ^ 64 + mask)) % 2 → b ≡ mask_sum word mask i

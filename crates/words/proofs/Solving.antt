@@ -7,10 +7,10 @@ use lib.Bits.{bit_and, bit_xor, xor_lt, and_le_l}
 use lib.Pow.{shr_le}
 use Rattle.quark.specs.Word.{word_bit}
 use Rattle.quark.proofs.Word.{word_bit-lt, word_bit-and, word_bit-xor, word_bit-shr}
-use Rattle.words.specs.declared.Register.{Register}
 use Rattle.words.specs.declared.RegisterWords.{RegisterWords}
 use Rattle.words.specs.declared.back.Derivatives.{Derivatives}
 use Rattle.words.specs.declared.back.LowTaps.{LowTaps}
+use Rattle.words.specs.declared.feedback.Feedback.{Feedback}
 use Rattle.words.specs.declared.feedback.StepBits.{StepBits}
 use Rattle.words.specs.Words.{value}
 use Rattle.words.specs.leaf.Solving.{known_X, known_Y, KnownTerms, read_by_G, read_by_H, Solved, Solvable, BeforeGroup}
@@ -189,10 +189,10 @@ module _ (w : ℕ) (known : StepBits) (d : Derivatives) (taps : LowTaps) (able :
 -- ---- the registers
 
 -- registers moved up, with bits that solve the equations with their known terms
-pub found-bits : {x y : Register} {products sums : StepBits} {h kept w : ℕ} {known new : StepBits} {d : Derivatives} {taps : LowTaps}
-    → KnownTerms x y products sums h kept w known → Solved known d taps w new → (s : RegisterWords) → value s.x ≡ value x % 2 ^ kept * 2 ^ w + new.x
-    → value s.y ≡ value y % 2 ^ kept * 2 ^ w + new.y → BeforeGroup x y products sums h d taps kept w s
-found-bits {x} {y} {products} {sums} {h} {kept} {w} {known} {new} {d} {taps} terms bits s ex ey = record {
+pub found-bits : {s : RegisterWords} {words : Feedback} {kept w : ℕ} {known new : StepBits} {d : Derivatives} {taps : LowTaps}
+    → KnownTerms s words kept w known → Solved known d taps w new → (t : RegisterWords) → value t.x ≡ value s.x % 2 ^ kept * 2 ^ w + new.x
+    → value t.y ≡ value s.y % 2 ^ kept * 2 ^ w + new.y → BeforeGroup s words d taps kept w t
+found-bits {s} {words} {kept} {w} {known} {new} {d} {taps} terms bits t ex ey = record {
   new = new;
   few_X = bits.few_X;
   few_Y = bits.few_Y;
@@ -201,6 +201,6 @@ found-bits {x} {y} {products} {sums} {h} {kept} {w} {known} {new} {d} {taps} ter
   bit_X = λ k less.
       bits.bit_X k
       ∙ ap (λ (n : ℕ). (n + read_by_G taps d new k) % 2) (terms.bit_X k less)
-      ∙ mod-add-mod (known_X x y products sums kept k) 2 (read_by_G taps d new k);
-  bit_Y = λ k less. flat (known_Y y products sums h kept k) (read_by_G taps d new k) (read_by_H taps d new k) (terms.bit_Y k less) (bits.bit_Y k);
+      ∙ mod-add-mod (known_X s words kept k) 2 (read_by_G taps d new k);
+  bit_Y = λ k less. flat (known_Y s words kept k) (read_by_G taps d new k) (read_by_H taps d new k) (terms.bit_Y k less) (bits.bit_Y k);
 }

@@ -3,7 +3,7 @@
 use mathlib.Core.Logic.{⊎_elim}
 use mathlib.Core.Path.{◌≡◌, refl, sym, ap, ap₂, ◌∙◌}
 use Prim.Native.Nat.{ℕ, zero, suc, ◌+◌, ◌*◌, ◌-◌, ◌/◌, ◌%◌, ◌^◌, ◌≤◌, ◌<◌}
-use native.Mathlib.Nat.{add_comm, add-zero, add-mod, mod-lt, mod-eq_of_lt, div-add-mod', div-one, div-eq_of_lt, sub-zero, lt_of_le_of_lt, lt_of_lt_of_le, not-suc-le-zero, eq-or-lt_of_le, le_of_suc-le-suc, pow-suc, mul_comm, zero-lt-suc}
+use native.Mathlib.Nat.{add_comm, add-zero, add-mod, mod-lt, mod-eq_of_lt, div-add-mod', div-eq_of_lt, sub-zero, lt_of_le_of_lt, lt_of_lt_of_le, not-suc-le-zero, eq-or-lt_of_le, le_of_suc-le-suc, pow-suc, mul_comm, zero-lt-suc}
 use native.Mathlib.Omega.{arith}
 use lib.Arith.{bin_ind, digits_lt}
 use lib.Bits.{bit_and, bit_xor, and_zero_r, and_block, xor_zero_l, xor_shr, shifted_half}
@@ -185,9 +185,3 @@ module _ (n mask w : ℕ) (narrow : mask < 2 ^ 112) (few : w ≤ 16) where
   summed_lt j m bits s =
       let word : ℕ = pack (mask_sum n mask) w in
       rw s.1 (lt_of_le_of_lt (shr_le word (w - j)) (lt_of_lt_of_le (pack-lt (mask_sum n mask) (mask_sum-lt n mask) w) (pow_mono few)))
-
-  pub summed_all : (j m bits : ℕ) → j ≡ w → Summed n mask w j m bits → bits ≡ pack (mask_sum n mask) w
-  summed_all j m bits e s =
-      let word : ℕ = pack (mask_sum n mask) w in
-      let z : w - j ≡ 0 = omega arith in
-      s.1 ∙ ap (λ (x : ℕ). word / 2 ^ x) z ∙ div-one word

@@ -1,7 +1,7 @@
 -- A number of two words of W digits, hi * 2 ^ W + lo: its digits from a place on, and the number moved down and up with new digits.
 use mathlib.Core.Path.{◌≡◌, sym, ap, ap₂, ◌∙◌, subst}
-use Prim.Native.Nat.{ℕ, zero, ◌+◌, ◌-◌, ◌*◌, ◌/◌, ◌%◌, ◌^◌, ◌≤◌, ◌<◌}
-use native.Mathlib.Nat.{mul_assoc, add-mul, add_assoc, mul-mod_left, mod-eq_of_lt, add-zero, add_comm, mul-add-div_right, mul-add-mod_self_right, mul_right_comm, div-one, lt_of_le_of_lt, lt_of_lt_of_le}
+use Prim.Native.Nat.{ℕ, ◌+◌, ◌-◌, ◌*◌, ◌/◌, ◌%◌, ◌^◌, ◌≤◌, ◌<◌}
+use native.Mathlib.Nat.{mul_assoc, add-mul, add_assoc, mul-mod_left, mod-eq_of_lt, add-zero, add_comm, mul-add-div_right, mul-add-mod_self_right, mul_right_comm, lt_of_le_of_lt, lt_of_lt_of_le}
 use native.Mathlib.Omega.{arith}
 use lib.Pow.{pow_pos, pow-add, pow_mono, shr_lt, shl-shr, shl_exact, shr-shr, shr_le, mod-pow-add, mod-mod-pow, high, low, split}
 use lib.Bits.{bit_or, or_shifted_r}
@@ -36,9 +36,6 @@ window_within W hi lo t g =
     subst (λ (x : ℕ). lo < 2 ^ x → bit_or (lo / 2 ^ t) (hi * 2 ^ (W - t) % 2 ^ x) ≡ (hi * 2 ^ x + lo) / 2 ^ t % 2 ^ x) e
     (window_low hi lo t (W - t))
 
-pub window_zero : (W hi lo : ℕ) → lo < 2 ^ W → lo ≡ (hi * 2 ^ W + lo) / 2 ^ zero % 2 ^ W
-window_zero W hi lo h = sym (ap (λ (x : ℕ). x % 2 ^ W) (div-one (hi * 2 ^ W + lo)) ∙ low hi W h)
-
 -- `hi >> (t - W)`
 pub window_above : (W hi lo t : ℕ) → W ≤ t → hi < 2 ^ W → lo < 2 ^ W → hi / 2 ^ (t - W) ≡ (hi * 2 ^ W + lo) / 2 ^ t % 2 ^ W
 window_above W hi lo t g hh hl =
@@ -52,12 +49,6 @@ high_shr : (W hi lo j : ℕ) → lo < 2 ^ W → (hi * 2 ^ W + lo) / 2 ^ j / 2 ^ 
 high_shr W hi lo j h =
     let n : ℕ = hi * 2 ^ W + lo in
     shr-shr n j W ∙ ap (λ (x : ℕ). n / 2 ^ x) (add_comm j W) ∙ sym (shr-shr n W j) ∙ ap (λ (x : ℕ). x / 2 ^ j) (high hi W h)
-
--- both words moved down by j make the number moved down by j
-pub words_shr : (W hi lo j : ℕ) → lo < 2 ^ W → hi / 2 ^ j * 2 ^ W + (hi * 2 ^ W + lo) / 2 ^ j % 2 ^ W ≡ (hi * 2 ^ W + lo) / 2 ^ j
-words_shr W hi lo j h =
-    let n : ℕ = hi * 2 ^ W + lo in
-    ap (λ (x : ℕ). x * 2 ^ W + n / 2 ^ j % 2 ^ W) (sym (high_shr W hi lo j h)) ∙ split (n / 2 ^ j) W
 
 -- digits from place p on, over a number m of fewer digits than p
 over_low : (q p new m : ℕ) → m < 2 ^ p → new / 2 ^ q * 2 ^ (q + p) + bit_or m (new * 2 ^ p % 2 ^ (q + p)) ≡ new * 2 ^ p + m

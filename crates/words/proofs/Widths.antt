@@ -1,22 +1,24 @@
--- The widths of groups, and what is shown of U, of D and of S in the branches of a test.
+-- The widths of groups, and the numbers and names of the instances.
 use mathlib.Core.Bool.{Bool, true, false, ◌&&◌, ◌||◌, false≢true}
-use mathlib.Core.Logic.{⊎_elim, inl, inr}
-use mathlib.Core.Path.{◌≡◌, refl, sym, subst}
-use Prim.Native.Nat.{ℕ, ◌<◌, ◌≤◌}
+use mathlib.Core.Logic.{◌⊎◌, ⊎_elim, inl, inr}
+use mathlib.Core.Path.{◌≡◌, refl, sym, ap, ◌∙◌, subst}
+use Prim.Native.Nat.{ℕ, zero, suc, ◌<◌, ◌≤◌}
 use native.Mathlib.Omega.{arith}
 use borrow.Author.Tests.{eqb-true, ne_eqb}
 use lib.Dec.{eqb}
 use Rattle.quark.specs.Feedback.{Taps}
-use Rattle.quark.specs.Instance.{Instance, U, D, S, instance_of, is_width}
-use Rattle.quark.proofs.Instance.{is_U, is_D, is_S}
-use Rattle.words.specs.leaf.Groups.{Width, WidthOf}
+use Rattle.quark.specs.Instance as quark
+use Rattle.quark.specs.Instance.{is_instance, is_width}
+use Rattle.words.specs.declared.instances.Instance.{Instance}
+use Rattle.words.specs.Instances.{named}
+use Rattle.words.specs.leaf.Groups.{Width, WidthIn}
 
 pub width_fits : (w : ℕ) → Width w → (0 < w) × (w ≤ 16)
 width_fits w = ⊎_elim (λ e. omega arith) (λ e. omega arith)
 
--- U and D have 8 alone
-eight_alone : (i w : ℕ) → (i ≡ 3 → ⊥) → WidthOf i w → w ≡ 8
-eight_alone i w n = ⊎_elim (λ e. e) (λ e. absurd (n e.0))
+-- the width of an instance's groups, by its number: 8, and for S 16 too
+abbrev pub WidthOf : ℕ → ℕ → Type 0
+WidthOf instance w = (w ≡ 8) ⊎ ((instance ≡ 3) × (w ≡ 16))
 
 pub some_width : (i w : ℕ) → WidthOf i w → Width w
 some_width i w = ⊎_elim inl (λ e. inr e.1)
@@ -36,26 +38,28 @@ several i w e more = cases (eqb w 8) (eqb w 16) (eqb i 3) refl refl refl (rw (ne
     cases false true false p q s t = absurd (false≢true t)
     cases false false c p q s t = absurd (false≢true t)
 
--- ---- the branches of a test of the instance's number
+-- the width of an instance's groups
+pub a_width : (T : Taps) (w : ℕ) → WidthIn T w → Width w
+a_width T w = ⊎_elim inl (λ e. inr e.1)
 
--- what is known of the instance is known of U, of D or of S
-module _ (F : Taps → Type 0) (i : ℕ) (known : F (instance_of i).taps) where
-  pub for_U : i ≡ 1 → F U.taps
-  for_U e = subst (λ (I : Instance). F I.taps) (is_U i e) known
+pub in_instance : (i w : ℕ) → WidthOf i w → WidthIn (quark.instance_of i).taps w
+unfolding quark.instance_of quark.S
+in_instance i w = ⊎_elim inl (λ e. inr (subst (λ (j : ℕ). (quark.instance_of j).taps.half ≡ 128) (sym e.0) refl, e.1))
 
-  pub for_D : i ≡ 2 → F D.taps
-  for_D e = subst (λ (I : Instance). F I.taps) (is_D i e) known
+-- ---- the numbers of the instances
 
-  pub for_S : (i ≡ 1 → ⊥) → (i ≡ 2 → ⊥) → F S.taps
-  for_S n m = subst (λ (I : Instance). F I.taps) (is_S i n m) known
+pub one_to_three : (i : ℕ) → 1 ≤ i → i ≤ 3 → is_instance i ≡ true
+unfolding is_instance
+one_to_three zero above below = absurd (omega arith)
+one_to_three (suc zero) above below = refl
+one_to_three (suc (suc zero)) above below = refl
+one_to_three (suc (suc (suc zero))) above below = refl
+one_to_three (suc (suc (suc (suc i)))) above below = absurd (omega arith)
 
--- what is shown of U at 8, of D at 8 or of S is shown of the instance
-module _ (F : Taps → ℕ → Type 0) (i w : ℕ) (width : WidthOf i w) where
-  pub from-U : i ≡ 1 → F U.taps 8 → F (instance_of i).taps w
-  from-U e shown = subst (λ (I : Instance). F I.taps w) (sym (is_U i e)) (subst (F U.taps) (sym (eight_alone i w (λ e3. omega arith) width)) shown)
+pub no_instance : (i : ℕ) → (i ≡ 1 → ⊥) → (i ≡ 2 → ⊥) → (i ≡ 3 → ⊥) → is_instance i ≡ false
+unfolding is_instance
+no_instance i n1 n2 n3 = simp (ne_eqb i 1 n1, ne_eqb i 2 n2, ne_eqb i 3 n3)
 
-  pub from-D : i ≡ 2 → F D.taps 8 → F (instance_of i).taps w
-  from-D e shown = subst (λ (I : Instance). F I.taps w) (sym (is_D i e)) (subst (F D.taps) (sym (eight_alone i w (λ e3. omega arith) width)) shown)
-
-  pub from-S : (i ≡ 1 → ⊥) → (i ≡ 2 → ⊥) → (v : ℕ) → w ≡ v → F S.taps v → F (instance_of i).taps w
-  from-S n m v e shown = subst (λ (I : Instance). F I.taps w) (sym (is_S i n m)) (subst (F S.taps) (sym e) shown)
+-- what a name says of the instance of a number
+pub is_named : (name : Instance) {given : Instance} {of_number : quark.Instance} → given ≡ name → named given ≡ of_number → of_number ≡ named name
+is_named name e f = sym f ∙ ap named e

@@ -2,3 +2,4 @@
 pub mod FeedbackWords
 pub mod Groups
 pub mod Solving
+pub mod TapsOf

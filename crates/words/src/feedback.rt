@@ -1,40 +1,49 @@
 // f, g and h for all steps of a group at once (document 01, "Taps and feedback"): bit k of a word is the bit of step k. The linear taps of
 // f and g are counted under a mask, step by step. The products, and the bits that h adds by themselves, are `&` and `^` of the register's
-// words from each tap on. The taps are literals where they are used: so they become shifts by constants.
-ghost use Rattle.std.specs.Prelude.{[], ◌∷◌, ◌≡◌, ℕ, ◌+◌, ◌*◌, ◌%◌, ◌^◌, ◌≤◌, ◌<◌};
-ghost use Rattle.quark.specs.Feedback.{sum_at, h};
-ghost use Rattle.quark.specs.Instance.{U, D, S};
+// words from each tap on. X and Y go in by themselves, and not as `RegisterWords`: L is not read here. What reads taps is marked `inline(always)`, so that they become shifts by constants in each instance: without it
+// the instances take 1.4 to 2.1 times as long.
+ghost use Rattle.std.specs.Prelude.{◌≡◌, ℕ, ◌+◌, ◌*◌, ◌%◌, ◌^◌, ◌≤◌, ◌<◌};
+ghost use Rattle.quark.specs.Feedback.{sum_at};
 ghost use Rattle.quark.specs.Word.{word_bit};
 ghost use Rattle.quark.specs.leaf.Places.{places_from};
 ghost use Rattle.words.specs.Words.{value};
-ghost use Rattle.words.specs.leaf.FeedbackWords.{in_step, products, ProductBits, mask_sum, pack, MaskSums, OneWord, mixes};
+ghost use Rattle.words.specs.leaf.FeedbackWords.{in_step, InRegister, MixedInRegister, products_at, mask_sum, pack, MaskSums, OneWord, mixes_at, FeedbackBits};
 
 use crate::Register;
-use crate::masks::Masks;
 use crate::registers::{down, up, window};
+use crate::taps::{Masks, MixedTaps, Quark};
 
-// Bits of X and of Y, or of f and of g, for the steps of a group: bit k of a word is the bit of step k.
+// Bits of X and of Y for the steps of a group: bit k of a word is the bit of step k.
 #[derive(Clone, Copy)]
 pub struct StepBits {
     pub x: u64,
     pub y: u64,
 }
 
-// The products of f's sum.
-fn products(
-    a1: u64,
-    a3: u64,
-    a4: u64,
-    a5: u64,
-    a6: u64,
-    a7: u64,
-    a8: u64,
-    a10: u64,
-    a11: u64,
-    a12: u64,
-) -> u64
-    ensures { (k : ℕ) → word_bit result k ≡ products (word_bit a1 k) (word_bit a3 k) (word_bit a4 k) (word_bit a5 k) (word_bit a6 k) (word_bit a7 k) (word_bit a8 k) (word_bit a10 k) (word_bit a11 k) (word_bit a12 k) % 2 }
+// f, g and h of the registers: bit k of a word is the bit of step k.
+#[derive(Clone, Copy)]
+pub struct Feedback {
+    pub f: u64,
+    pub g: u64,
+    pub h: u64,
+}
+
+// The products of f's sum at the taps a0 to a12 of a register.
+#[inline(always)]
+fn products(r: Register, a: &[u32; 13]) -> u64
+    requires { InRegister a.now }
+    ensures { (k : ℕ) → k < 64 → word_bit result k ≡ products_at a.now (in_step k r) % 2 }
 {
+    let a1 = window(r, a[1]);
+    let a3 = window(r, a[3]);
+    let a4 = window(r, a[4]);
+    let a5 = window(r, a[5]);
+    let a6 = window(r, a[6]);
+    let a7 = window(r, a[7]);
+    let a8 = window(r, a[8]);
+    let a10 = window(r, a[10]);
+    let a11 = window(r, a[11]);
+    let a12 = window(r, a[12]);
     (a11 & a12)
         ^ (a6 & a7)
         ^ (a1 & a3)
@@ -48,41 +57,17 @@ fn products(
         ^ (a4 & a5 & a6 & a7 & a8 & a10)
 }
 
-// The products of f's sum at taps of a register.
-fn products_at(
-    r: Register,
-    a1: u32,
-    a3: u32,
-    a4: u32,
-    a5: u32,
-    a6: u32,
-    a7: u32,
-    a8: u32,
-    a10: u32,
-    a11: u32,
-    a12: u32,
-) -> u64
-    requires { (a1 < 128) × (a3 < 128) × (a4 < 128) × (a5 < 128) × (a6 < 128) × (a7 < 128) × (a8 < 128) × (a10 < 128) × (a11 < 128) × (a12 < 128) }
-    ensures { (k : ℕ) → k < 64 → word_bit result k ≡ products (in_step k r a1) (in_step k r a3) (in_step k r a4) (in_step k r a5) (in_step k r a6) (in_step k r a7) (in_step k r a8) (in_step k r a10) (in_step k r a11) (in_step k r a12) % 2 }
+// h without the bits of X and Y that it adds by themselves; bit k of l is L0 in step k. The names are U's taps.
+#[inline(always)]
+fn mixed(x: Register, y: Register, l: u64, taps: MixedTaps) -> u64
+    requires { MixedInRegister taps }
+    ensures { (k : ℕ) → k < 64 → word_bit result k ≡ mixes_at taps (in_step k x) (in_step k y) (word_bit l k) % 2 }
 {
-    products(
-        window(r, a1),
-        window(r, a3),
-        window(r, a4),
-        window(r, a5),
-        window(r, a6),
-        window(r, a7),
-        window(r, a8),
-        window(r, a10),
-        window(r, a11),
-        window(r, a12),
-    )
-}
-
-// h without the bits of X and Y that it adds by themselves; the names are U's taps.
-fn mixed(l: u64, y3: u64, x25: u64, x46: u64, x55: u64, y59: u64) -> u64
-    ensures { (k : ℕ) → word_bit result k ≡ mixes (word_bit l k) (word_bit y3 k) (word_bit x25 k) (word_bit x46 k) (word_bit x55 k) (word_bit y59 k) % 2 }
-{
+    let y3 = window(y, taps.y_low);
+    let x25 = window(x, taps.x_low);
+    let x46 = window(x, taps.x_mid);
+    let x55 = window(x, taps.x_high);
+    let y59 = window(y, taps.y_high);
     l ^ (y3 & x55)
         ^ (x46 & x55)
         ^ (x55 & y59)
@@ -93,100 +78,34 @@ fn mixed(l: u64, y3: u64, x25: u64, x46: u64, x55: u64, y59: u64) -> u64
         ^ (l & x25)
 }
 
-// h without the bits of X and Y that it adds by themselves, at taps of the registers.
-fn mixed_at(
+// The sum of the bits at taps.
+#[inline(always)]
+pub fn taps_at(r: Register, taps: &[u32]) -> u64
+    requires { InRegister taps.now }
+    ensures { (k : ℕ) → k < 64 → word_bit result k ≡ sum_at (in_step k r) taps.now % 2 }
+{
+    let mut sum = 0u64;
+    for t in taps {
+        sum ^= window(r, *t);
+    }
+    sum
+}
+
+// f, g and h of an instance for `WIDTH` steps; bit k of l is L0 in step k. `sums` has the linear taps of f and g.
+#[inline(always)]
+pub fn feedback_of<T: Quark, const WIDTH: u32>(
     x: Register,
     y: Register,
     l: u64,
-    y_low: u32,
-    x_low: u32,
-    x_mid: u32,
-    x_high: u32,
-    y_high: u32,
-) -> u64
-    requires { (y_low < 128) × (x_low < 128) × (x_mid < 128) × (x_high < 128) × (y_high < 128) }
-    ensures { (k : ℕ) → k < 64 → word_bit result k ≡ mixes (word_bit l k) (in_step k y y_low) (in_step k x x_low) (in_step k x x_mid) (in_step k x x_high) (in_step k y y_high) % 2 }
+    sums: StepBits,
+) -> Feedback
+    requires { (WIDTH ≤ 16) × MaskSums x y T.MASKS WIDTH sums }
+    ensures { FeedbackBits T.taps WIDTH x y l result }
 {
-    mixed(
-        l,
-        window(y, y_low),
-        window(x, x_low),
-        window(x, x_mid),
-        window(x, x_high),
-        window(y, y_high),
-    )
-}
-
-// The sum of the bits at three taps.
-fn three_taps(r: Register, s: u32, t: u32, u: u32) -> u64
-    requires { (s < 128) × (t < 128) × (u < 128) }
-    ensures { (k : ℕ) → k < 64 → word_bit result k ≡ sum_at (in_step k r) (s ∷ t ∷ u ∷ []) % 2 }
-{
-    window(r, s) ^ window(r, t) ^ window(r, u)
-}
-
-// h of U; bit k of l is L0 in step k.
-pub fn h_u(x: Register, y: Register, l: u64) -> u64
-    ensures { (k : ℕ) → k < 64 → word_bit result k ≡ h U.taps (in_step k x) (in_step k y) (λ i. word_bit l k) }
-{
-    mixed_at(x, y, l, 3, 25, 46, 55, 59)
-        ^ three_taps(x, 1, 4, 25)
-        ^ window(x, 31)
-        ^ window(x, 56)
-        ^ three_taps(y, 2, 10, 43)
-        ^ window(y, 59)
-}
-
-// h of D; bit k of l is L0 in step k.
-pub fn h_d(x: Register, y: Register, l: u64) -> u64
-    ensures { (k : ℕ) → k < 64 → word_bit result k ≡ h D.taps (in_step k x) (in_step k y) (λ i. word_bit l k) }
-{
-    mixed_at(x, y, l, 4, 35, 57, 68, 79)
-        ^ three_taps(x, 1, 5, 35)
-        ^ three_taps(x, 40, 48, 72)
-        ^ three_taps(y, 2, 12, 24)
-        ^ three_taps(y, 55, 61, 79)
-}
-
-// h of S; bit k of l is L0 in step k.
-pub fn h_s(x: Register, y: Register, l: u64) -> u64
-    ensures { (k : ℕ) → k < 64 → word_bit result k ≡ h S.taps (in_step k x) (in_step k y) (λ i. word_bit l k) }
-{
-    mixed_at(x, y, l, 8, 47, 72, 100, 111)
-        ^ three_taps(x, 1, 7, 47)
-        ^ three_taps(x, 58, 90, 105)
-        ^ three_taps(y, 3, 18, 34)
-        ^ three_taps(y, 71, 80, 91)
-        ^ window(y, 111)
-}
-
-// The products of f and g of U.
-pub fn products_u(x: Register, y: Register) -> StepBits
-    ensures { (k : ℕ) → k < 64 → ProductBits U.taps x y result k }
-{
-    StepBits {
-        x: products_at(x, 9, 15, 21, 28, 33, 37, 45, 52, 55, 59),
-        y: products_at(y, 7, 15, 20, 30, 35, 37, 42, 51, 54, 58),
-    }
-}
-
-// The products of f and g of D.
-pub fn products_d(x: Register, y: Register) -> StepBits
-    ensures { (k : ℕ) → k < 64 → ProductBits D.taps x y result k }
-{
-    StepBits {
-        x: products_at(x, 11, 19, 27, 36, 42, 47, 58, 67, 71, 79),
-        y: products_at(y, 9, 19, 25, 38, 44, 47, 54, 67, 69, 78),
-    }
-}
-
-// The products of f and g of S.
-pub fn products_s(x: Register, y: Register) -> StepBits
-    ensures { (k : ℕ) → k < 64 → ProductBits S.taps x y result k }
-{
-    StepBits {
-        x: products_at(x, 16, 28, 39, 52, 61, 69, 84, 97, 103, 111),
-        y: products_at(y, 13, 28, 37, 56, 65, 69, 79, 96, 101, 109),
+    Feedback {
+        f: products(x, &T::F) ^ sums.x,
+        g: products(y, &T::G) ^ sums.y,
+        h: mixed(x, y, l, T::H) ^ T::h_alone(x, y),
     }
 }
 
@@ -195,7 +114,7 @@ pub fn products_s(x: Register, y: Register) -> StepBits
 fn parity(r: Register, mask: Register) -> u64
     ensures { result ≡ sum_at (word_bit (value r)) (places_from 128 0 (value mask)) % 2 }
 {
-    (u64::count_ones((r.hi & mask.hi) ^ (r.lo & mask.lo)) % 2) as u64
+    u64::from(u64::count_ones((r.hi & mask.hi) ^ (r.lo & mask.lo)) % 2)
 }
 
 // The sums of the linear taps, as a mask over a register, for `width` steps. The register stays and the mask moves down, last step first:
@@ -206,11 +125,9 @@ fn sums(r: Register, mask: Register, width: u32) -> u64
 {
     let mut m = up(mask, width - 1);
     let mut bits = 0u64;
-    let mut j = 0u32;
-    while j < width {
+    for _ in 0..width {
         bits = bits * 2 + parity(r, m);
         m = down(m);
-        j += 1;
     }
     bits
 }
@@ -222,9 +139,7 @@ fn four_sums(word: u64, mask: u64, later: u64) -> u64
     ensures { result ≡ later * 16 + pack (mask_sum word mask) 4 }
 {
     let mut bits = later;
-    let mut j = 4u32;
-    while j > 0 {
-        j -= 1;
+    for j in (0..4u32).rev() {
         bits = bits * 2
             + parity(
                 Register {

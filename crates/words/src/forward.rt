@@ -2,131 +2,68 @@
 // new bits of all its steps from the old registers, which the half allows: highest tap + width is at most the half. L alone is extended in
 // strides.
 ghost use Rattle.std.specs.Prelude.{◌≡◌, ◌+◌, ◌*◌, ◌%◌, ◌^◌, ◌≤◌, ◌<◌};
-ghost use Rattle.quark.specs.Instance.{U, D, S, instance_of};
 ghost use Rattle.words.specs.Words.{value};
-ghost use Rattle.words.specs.leaf.Groups.{Width, WidthOf, Fitting, Stepped, AfterGroup};
+ghost use Rattle.words.specs.Instances.{named};
+ghost use Rattle.words.specs.leaf.Groups.{WidthIn, Fitting, Stepped, AfterGroup};
 
-use crate::feedback::{StepBits, h_d, h_s, h_u, linear, products_d, products_s, products_u};
-use crate::masks::{Masks, masks_d, masks_s, masks_u};
-use crate::registers::{low_bits, push};
-use crate::strides::eight_steps_of_l;
-use crate::{Register, RegisterWords};
+use crate::RegisterWords;
+use crate::feedback::{Feedback, feedback_of, linear};
+use crate::instances::Instance;
+use crate::registers::{Split, low_bits, push};
+use crate::strides::group_of_l;
+use crate::taps::{D, Quark, S, U};
 
-// The registers after a group, with `l` for L: X gains Y0, f and h, and Y gains g and h. `masks` has the linear taps of f and g; `kept` is
-// how many bits of a register stay, the half less the width.
-fn after_group(
-    x: Register,
-    y: Register,
-    products: StepBits,
-    h: u64,
-    masks: Masks,
-    kept: u32,
-    width: u32,
-    l: u64,
-) -> RegisterWords
-    requires { Width width × (0 < kept) × (width + kept ≤ 128) × (value x < 2 ^ (width + kept)) × (value y < 2 ^ (width + kept))
-        × (value masks.f < 2 ^ 112) × (value masks.g < 2 ^ 112) }
-    ensures { AfterGroup x y products h masks kept width result × (result.l ≡ l) }
+// The registers after a group, with `l` for L: X gains Y0, f and h, and Y gains g and h.
+fn after_group(s: RegisterWords, words: Feedback, by: Split, l: u64) -> RegisterWords
+    requires { (value s.x < 2 ^ (by.width + by.kept)) × (value s.y < 2 ^ (by.width + by.kept)) }
+    ensures { AfterGroup s words by.kept by.width result × (result.l ≡ l) }
 {
-    let sums = linear(x, y, masks, width);
+    let x = low_bits(s.y.lo ^ words.f ^ words.h, by);
+    let y = low_bits(words.g ^ words.h, by);
     RegisterWords {
-        x: push(
-            x,
-            low_bits(y.lo ^ products.x ^ h ^ sums.x, width),
-            kept,
-            width,
-        ),
-        y: push(y, low_bits(products.y ^ h ^ sums.y, width), kept, width),
+        x: push(s.x, x, by),
+        y: push(s.y, y, by),
         l: l,
     }
 }
 
-// Eight steps of U.
-fn group_u(x: Register, y: Register, l: u64) -> RegisterWords
-    requires { Fitting U.taps x y l }
-    ensures { Stepped U.taps 8 x y l result }
+// `WIDTH` steps of an instance.
+// What it needs of the width and of the words are two facts, which every group gives on: a type with both would be built anew after each.
+fn group<T: Quark, const WIDTH: u32>(s: RegisterWords) -> RegisterWords
+    requires { WidthIn T.taps WIDTH × Fitting T.taps s }
+    ensures { Stepped T.taps WIDTH s result }
 {
-    let h = h_u(x, y, l);
-    after_group(
-        x,
-        y,
-        products_u(x, y),
-        h,
-        masks_u(),
-        60,
-        8,
-        eight_steps_of_l(l),
-    )
+    let after = group_of_l(s.l, WIDTH);
+    let sums = linear(s.x, s.y, T::MASKS, WIDTH);
+    let words = feedback_of::<T, WIDTH>(s.x, s.y, after.firsts, sums);
+    let by = Split {
+        kept: T::HALF - WIDTH,
+        width: WIDTH,
+    };
+    after_group(s, words, by, after.l)
 }
 
-// Eight steps of D.
-fn group_d(x: Register, y: Register, l: u64) -> RegisterWords
-    requires { Fitting D.taps x y l }
-    ensures { Stepped D.taps 8 x y l result }
+// count * WIDTH steps of an instance.
+fn groups<T: Quark, const WIDTH: u32>(state: RegisterWords, count: u32) -> RegisterWords
+    requires { WidthIn T.taps WIDTH × Fitting T.taps state }
+    ensures { Stepped T.taps (count * WIDTH) state result }
 {
-    let h = h_d(x, y, l);
-    after_group(
-        x,
-        y,
-        products_d(x, y),
-        h,
-        masks_d(),
-        80,
-        8,
-        eight_steps_of_l(l),
-    )
-}
-
-// Eight or sixteen steps of S.
-fn group_s(x: Register, y: Register, l: u64, width: u32) -> RegisterWords
-    requires { Width width × Fitting S.taps x y l }
-    ensures { Stepped S.taps width x y l result }
-{
-    let masks = masks_s();
-    let next = eight_steps_of_l(l);
-    let h = h_s(x, y, next * 256 + l % 256);
-    let products = products_s(x, y);
-    if width == 8 {
-        after_group(x, y, products, h, masks, 120, 8, next)
-    } else {
-        after_group(x, y, products, h, masks, 112, 16, eight_steps_of_l(next))
-    }
-}
-
-// `width` steps of an instance.
-fn group(x: Register, y: Register, l: u64, instance: u32, width: u32) -> RegisterWords
-    requires { WidthOf instance width × Fitting (instance_of instance).taps x y l }
-    ensures { Stepped (instance_of instance).taps width x y l result }
-{
-    if instance == 1 {
-        return group_u(x, y, l);
-    }
-    if instance == 2 {
-        return group_d(x, y, l);
-    }
-    group_s(x, y, l, width)
-}
-
-// count * width steps of an instance.
-pub fn groups(
-    x: Register,
-    y: Register,
-    l: u64,
-    instance: u32,
-    width: u32,
-    count: u32,
-) -> RegisterWords
-    requires { WidthOf instance width × Fitting (instance_of instance).taps x y l }
-    ensures { Stepped (instance_of instance).taps (count * width) x y l result }
-{
-    let mut s = RegisterWords { x: x, y: y, l: l };
-    let mut i = 0u32;
-    while i < count {
-        // with s.x and s.y in the call itself U takes 7 % longer
-        let x_now = s.x;
-        let y_now = s.y;
-        s = group(x_now, y_now, s.l, instance, width);
-        i += 1;
+    let mut s = state;
+    for _ in 0..count {
+        s = group::<T, WIDTH>(s);
     }
     s
+}
+
+// `count` steps of an instance, `width` taken together.
+pub fn steps(instance: Instance, width: u32, count: u32, state: RegisterWords) -> RegisterWords
+    requires { WidthIn (named instance).taps width × (count % width ≡ 0) × Fitting (named instance).taps state }
+    ensures { Stepped (named instance).taps count state result }
+{
+    match instance {
+        Instance::U => groups::<U, 8>(state, count / 8),
+        Instance::D => groups::<D, 8>(state, count / 8),
+        Instance::S if width == 8 => groups::<S, 8>(state, count / 8),
+        Instance::S => groups::<S, 16>(state, count / 16),
+    }
 }

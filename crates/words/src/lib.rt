@@ -1,5 +1,6 @@
 // Several steps together on registers that are words (document 01, "Steps, permutation and inverse"): groups of 8 steps for every instance,
 // and of 16 for S. The operations are total: a call that does not fit hands its state back.
+// They take instance, width and count as numbers and answer no `Option`, since their contracts speak of every number (`fits`).
 #![tactic(auto)]
 
 ghost use Rattle.std.specs.Prelude.{cond, ◌≡◌};
@@ -11,9 +12,11 @@ mod feedback;
 mod fitting;
 mod forward;
 pub mod instances;
-mod masks;
 mod registers;
 mod strides;
+mod taps;
+
+use crate::instances::Instance;
 
 // X or Y as the number hi * 2 ^ 64 + lo, with bit i at weight 2 ^ i; or a mask over it.
 #[derive(Clone, Copy)]
@@ -39,23 +42,21 @@ pub fn run(instance: u32, width: u32, count: u32, state: RegisterWords) -> Regis
     if !fitting::fits(instance, width, count, state) {
         return state;
     }
-    forward::groups(state.x, state.y, state.l, instance, width, count / width)
+    forward::steps(Instance::from(instance), width, count, state)
 }
 
 // The state `count` steps before, `width` undone together; state.l is what L was before them, and comes back. The same calls fit.
 // A call that does not fit gives the state as it was.
+// `undo` is not `run` in another direction alone: L goes ahead first.
 pub fn undo(instance: u32, width: u32, count: u32, state: RegisterWords) -> RegisterWords
     ensures { result ≡ cond (fits instance width count state) (words_before (instance_of instance).taps count state) state }
 {
     if !fitting::fits(instance, width, count, state) {
         return state;
     }
-    back::groups_back(
-        state.x,
-        state.y,
-        strides::ahead(state.l, count / 8),
-        instance,
-        width,
-        count / width,
-    )
+    let after = RegisterWords {
+        l: strides::ahead(state.l, count / 8),
+        ..state
+    };
+    back::steps_back(Instance::from(instance), width, count, after)
 }

@@ -2,11 +2,11 @@
 // full.
 ghost use Rattle.std.specs.Prelude.{◌≡◌, ◌+◌, ◌*◌, ◌/◌, ◌%◌, ◌^◌, ◌≤◌, ◌<◌};
 ghost use Rattle.words.specs.Words.{value};
-ghost use Rattle.words.specs.leaf.Groups.{Width};
 
 use crate::Register;
 
 // The 64 bits of a register from bit t on, 0 past its end.
+#[inline(always)]
 pub fn window(r: Register, t: u32) -> u64
     requires { t < 128 }
     ensures { result ≡ value r / 2 ^ t % 2 ^ 64 }
@@ -43,41 +43,48 @@ pub fn up(r: Register, n: u32) -> Register
     }
 }
 
-// A register of kept + width bits moved down by width, with the width bits of `new` after those that are kept.
-pub fn push(r: Register, new: u64, kept: u32, width: u32) -> Register
-    requires { (value r < 2 ^ (width + kept)) × (new < 2 ^ width) × (0 < kept) × (0 < width) × (width < 64) × (kept < 128) × (width + kept ≤ 128) }
-    ensures { value result ≡ new * 2 ^ kept + value r / 2 ^ width }
+// How a group moves a register: `width` bits are new, and `kept` bits stay.
+#[derive(Clone, Copy)]
+pub struct Split {
+    pub kept: u32,
+    pub width: u32,
+    ghost whole: { (0 < width) × (width < 64) × (0 < kept) × (64 < width + kept) × (width + kept ≤ 128) },
+}
+
+// A register moved down by the width, with the bits of `new` after those that are kept.
+pub fn push(r: Register, new: u64, by: Split) -> Register
+    requires { (value r < 2 ^ (by.width + by.kept)) × (new < 2 ^ by.width) }
+    ensures { value result ≡ new * 2 ^ by.kept + value r / 2 ^ by.width }
 {
-    let lo = window(r, width);
-    if kept < 64 {
+    let lo = window(r, by.width);
+    if by.kept < 64 {
         Register {
-            hi: new >> (64 - kept),
-            lo: lo | (new << kept),
+            hi: new >> (64 - by.kept),
+            lo: lo | (new << by.kept),
         }
     } else {
         Register {
-            hi: (r.hi >> width) | (new << (kept - 64)),
+            hi: (r.hi >> by.width) | (new << (by.kept - 64)),
             lo: lo,
         }
     }
 }
 
-// A register of kept + width bits moved up by width, with the width bits of `new` before those that are kept; its last width bits drop out.
-pub fn pull(r: Register, new: u64, kept: u32, width: u32) -> Register
-    requires { (new < 2 ^ width) × (0 < width) × (width < 64) × (64 < width + kept) × (width + kept ≤ 128) }
-    ensures { value result ≡ value r % 2 ^ kept * 2 ^ width + new }
+// A register moved up by the width, with the bits of `new` before those that are kept; its last bits drop out.
+pub fn pull(r: Register, new: u64, by: Split) -> Register
+    requires { new < 2 ^ by.width }
+    ensures { value result ≡ value r % 2 ^ by.kept * 2 ^ by.width + new }
 {
-    let above = 128 - width - kept;
+    let above = 128 - by.width - by.kept;
     Register {
-        hi: (window(r, 64 - width) << above) >> above,
-        lo: new | (r.lo << width),
+        hi: (window(r, 64 - by.width) << above) >> above,
+        lo: new | (r.lo << by.width),
     }
 }
 
-// The lowest 8 or 16 bits of a word.
-pub fn low_bits(word: u64, width: u32) -> u64
-    requires { Width width }
-    ensures { result ≡ word % 2 ^ width }
+// The lowest bits of a word, as many as are new.
+pub fn low_bits(word: u64, by: Split) -> u64
+    ensures { result ≡ word % 2 ^ by.width }
 {
-    if width == 8 { word % 256 } else { word % 65536 }
+    word % (1 << by.width)
 }

@@ -3,15 +3,23 @@
 
 const RATE: &str = include_str!("../../../crates/sponge/src/rate.rt");
 const PIECES: &str = include_str!("../../../crates/sponge/src/pieces.rt");
+const INSTANCES: &str = include_str!("../../../crates/words/src/instances.rt");
 
 /// What is called to run P.
 const P: [&str; 2] = ["state_bytes", "permutation::permute"];
 
-/// A function's body, without comments. It begins after the line that ends with its brace; those of its clauses are indented.
+/// How far a line is indented.
+fn indent(line: &str) -> usize {
+    line.len() - line.trim_start().len()
+}
+
+/// A function's or a method's body, without comments. It begins after the line that ends with its brace; those of its clauses are indented deeper.
 fn body(function: &str, source: &str) -> String {
     let starts = [format!("fn {function}("), format!("pub fn {function}(")];
-    let from = source.lines().skip_while(|line| !starts.iter().any(|start| line.starts_with(start)));
-    let lines = from.skip_while(|line| line.starts_with(' ') || !line.ends_with('{')).skip(1).take_while(|line| *line != "}");
+    let from = source.lines().skip_while(|line| !starts.iter().any(|start| line.trim_start().starts_with(start)));
+    let depth = from.clone().next().map_or(0, indent);
+    let body = from.skip_while(|line| indent(line) > depth || !line.ends_with('{')).skip(1);
+    let lines = body.take_while(|line| indent(line) > depth || line.trim() != "}");
     lines.map(|line| line.split("//").next().unwrap()).collect::<Vec<_>>().join("\n")
 }
 
@@ -38,7 +46,11 @@ fn no_division_and_no_remainder() {
         assert!(!body.contains(['/', '%']), "{function} divides:\n{body}");
         assert!(!body.split_whitespace().any(|word| ["while", "for", "loop"].contains(&word)), "{function} has a loop:\n{body}");
         for call in calls(&body).into_iter().filter(|call| !P.contains(call)) {
-            let (name, source) = call.strip_prefix("rate::").map_or((call, source), |name| (name, RATE));
+            let (name, source) = match call.strip_prefix("rate::") {
+                Some(name) => (name, RATE),
+                None if call == "Instance::from" => ("from", INSTANCES),
+                None => (call, source),
+            };
             assert_ne!(name, function, "a function calls itself:\n{body}");
             let called = (name.to_string(), source);
             if !read.contains(&called) {

@@ -174,13 +174,13 @@ const UNANSWERED: [&str; 9] = [
 
 /// The refusals of the Rattle sources that an exported function can answer.
 fn answered() -> Vec<Refusal> {
-    sources::refusals().into_iter().filter(|refusal| !UNANSWERED.contains(&refusal.name.as_str())).collect()
+    sources::refusals().into_iter().filter(|refusal| !UNANSWERED.contains(&refusal.constant().as_str())).collect()
 }
 
 /// The header lists the others by their numbers.
 #[test]
 fn the_header_names_the_numbers_that_are_never_answered() {
-    let others = sources::refusals().into_iter().filter(|refusal| UNANSWERED.contains(&refusal.name.as_str()));
+    let others = sources::refusals().into_iter().filter(|refusal| UNANSWERED.contains(&refusal.constant().as_str()));
     let numbers: Vec<String> = others.map(|refusal| refusal.number.to_string()).collect();
     assert_eq!(numbers.len(), UNANSWERED.len());
     let (last, first) = numbers.split_last().expect("a number");
@@ -191,7 +191,7 @@ fn the_header_names_the_numbers_that_are_never_answered() {
 #[test]
 fn the_refusals_are_those_of_the_rattle_sources() {
     let numbers: BTreeMap<String, String> =
-        answered().into_iter().map(|refusal| (refusal.name, refusal.number.to_string())).collect();
+        answered().into_iter().map(|refusal| (refusal.constant(), refusal.number.to_string())).collect();
     let named: BTreeMap<String, String> = refusals().into_iter().map(|(name, number)| (name.to_string(), number)).collect();
     assert_eq!(named, numbers);
 }
@@ -200,7 +200,9 @@ fn the_refusals_are_those_of_the_rattle_sources() {
 #[test]
 fn the_refusals_have_one_sentence() {
     let header = header();
-    for Refusal { number, name, sentence } in answered() {
+    for refusal in answered() {
+        let name = refusal.constant();
+        let Refusal { number, sentence, .. } = refusal;
         assert_eq!(Refused { number, place: None }.to_string(), format!("refusal {number}: {sentence}"));
         let lines = format!("\n/* {sentence} */\n#define WILBROGED_{name} {number}\n");
         assert!(header.contains(&lines), "the header has not {lines}");

@@ -2,45 +2,45 @@
 use Rattle.std.specs.Prelude.{false}
 use mathlib.Core.Path.{sym, ap, ◌∙◌}
 use native.Mathlib.Omega.{arith}
-use Rattle.refusals.specs.Outcome.{accepted}
-use Rattle.refusals.proofs.Outcome.{refused-left, accepted-left, refused-outcome, accepted-outcome}
-use Rattle.permutation.specs.Steps.{stepped_outcome, steps_outcome, steps_bytes}
+use Rattle.refusals.specs.Lines.{refused_by}
+use Rattle.refusals.specs.Outcome.{accepted, outcome_of}
+use Rattle.refusals.proofs.Outcome.{handed_on, some_line, accepted-outcome, refused-left, accepted-left}
+use Rattle.permutation.specs.Steps.{steps_outcome, steps_bytes}
 use Rattle.permutation.proofs.Accepted.{accepted-range, accepted-steps, accepted-state}
 use Rattle.permutation.proofs.Overwriting.{stepped-bytes, stepped-L}
 use Rattle.permutation.proofs.steps.Goals as goal
 
-pub steps_line-number-requires : goal.steps_line-number-requires
-steps_line-number-requires c = tt
-
-pub returns-then-number-ne0 : goal.returns-then-number-ne0
-unfolding stepped_outcome steps_outcome steps_bytes
-returns-then-number-ne0 c =
-    let e = c.steps_line-number.ensures in record {
-      answer = refused-outcome _ _ _ e c.if-number-ne0.true;
-      bytes = refused-left _ _ _ (λ z. c.if-number-ne0.true (e ∙ z));
-    }
+pub returns-in_err-steps_line : goal.returns-in_err-steps_line
+unfolding steps_outcome steps_bytes
+returns-in_err-steps_line c = record {
+  answer = handed_on _ _ c.in_err-steps_line.ensures _ _ c.from_residual.ensures.1;
+  bytes = refused-left _ _ _ (some_line _ _ c.in_err-steps_line.ensures);
+}
 
 pub mirrored-start-requires : goal.mirrored-start-requires
-mirrored-start-requires c = (accepted-range _ _ _ _ _ (sym c.steps_line-number.ensures ∙ c.if-number-ne0.false)).start
+unfolding refused_by
+mirrored-start-requires c = (accepted-range _ _ _ _ _ (sym c.in_ok-steps_line.ensures)).start
+
+pub invariant_of-steps : goal.invariant_of-steps
+unfolding refused_by
+invariant_of-steps c = record { allowed = accepted-steps _ _ _ _ _ (sym c.in_ok-steps_line.ensures) _ c.mirrored-start.ensures }
 
 pub overwrite-after-requires : goal.overwrite-after-requires
-overwrite-after-requires c =
-    let n = sym c.steps_line-number.ensures ∙ c.if-number-ne0.false in record {
-      allowed = accepted-steps _ _ _ _ _ n _ c.mirrored-start.ensures;
-      buffer_len = accepted-state _ _ _ _ _ n;
-    }
+unfolding refused_by
+overwrite-after-requires c = accepted-state _ _ _ _ _ (sym c.in_ok-steps_line.ensures)
 
 -- L after the steps has ten bits, and so has the start value
 pub mirrored-requires : goal.mirrored-requires
+unfolding refused_by
 mirrored-requires c =
-    let start = accepted-steps _ _ _ _ _ (sym c.steps_line-number.ensures ∙ c.if-number-ne0.false) _ c.mirrored-start.ensures in
+    let start = accepted-steps _ _ _ _ _ (sym c.in_ok-steps_line.ensures) _ c.mirrored-start.ensures in
     omega (arith, start.small, c.overwrite-after.ensures.small)
 
 pub returns : goal.returns
-unfolding stepped_outcome steps_outcome steps_bytes
+unfolding refused_by outcome_of steps_outcome steps_bytes
 returns c =
-    let n = sym c.steps_line-number.ensures ∙ c.if-number-ne0.false in
+    let none = sym c.in_ok-steps_line.ensures in
     let reached = c.overwrite-after.ensures in record {
-      answer = ap accepted (c.mirrored.ensures ∙ stepped-L _ _ _ false _ _ _ _ c.mirrored-start.ensures reached) ∙ accepted-outcome _ _ (sym n);
-      bytes = stepped-bytes _ _ _ false _ _ _ _ c.mirrored-start.ensures reached ∙ accepted-left _ _ _ n;
+      answer = ap accepted (c.mirrored.ensures ∙ stepped-L _ _ _ false _ _ _ _ c.mirrored-start.ensures reached) ∙ accepted-outcome _ _ (sym none);
+      bytes = stepped-bytes _ _ _ false _ _ _ _ c.mirrored-start.ensures reached ∙ accepted-left _ _ _ none;
     }

@@ -1,13 +1,12 @@
 -- `number_of` meets its contract: each arm is the case of the answer that it takes.
-use mathlib.Core.Path.{sym, ap}
-use Rattle.refusals.specs.declared.Answer.{Answer}
+use Rattle.std.proofs.Common.{rules}
 use Rattle.refusals.specs.Outcome.{outcome_of, number_of}
 use Rattle.refusals.proofs.number_of.Goals as goal
 
-pub returns-in-Accepted : goal.returns-in-Accepted
+pub returns-in-Ok : goal.returns-in-Ok
 unfolding number_of outcome_of
-returns-in-Accepted c = ap (λ (a : Answer). number_of (outcome_of a)) (sym c.in-Accepted.is)
+returns-in-Ok g c = search rules
 
-pub returns-in-Refused : goal.returns-in-Refused
+pub returns-in-Err : goal.returns-in-Err
 unfolding number_of outcome_of
-returns-in-Refused c = ap (λ (a : Answer). number_of (outcome_of a)) (sym c.in-Refused.is)
+returns-in-Err g c = search rules

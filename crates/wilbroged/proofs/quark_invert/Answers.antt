@@ -3,12 +3,6 @@ use mathlib.Core.Path.{ap, ◌∙◌}
 use Rattle.refusals.specs.Outcome.{number_of}
 use Rattle.wilbroged.proofs.quark_invert.Goals as goal
 
-pub invert-requires : goal.invert-requires
-invert-requires c = tt
-
-pub number_of-requires : goal.number_of-requires
-number_of-requires c = tt
-
 pub returns : goal.returns
 returns c =
     let call = c.invert in record {

@@ -1,34 +1,30 @@
 -- `words::run` meets its contract.
-use mathlib.Core.Path.{subst}
-use Prim.Native.Nat.{ℕ}
+use mathlib.Core.Bool.{true}
+use mathlib.Core.Path.{◌≡◌, sym, subst}
 use borrow.Author.Rules.{rules}
-use Rattle.quark.specs.Instance.{instance_of}
-use Rattle.words.proofs.Fits.{Fits, passed, fits_width, fits-some, fits-answer, else_answer}
-use Rattle.words.proofs.Groups.{Forward, whole-groups, stepped-words}
+use Rattle.quark.specs.Instance.{Instance, instance_of}
+use Rattle.words.specs.Words.{fits}
+use Rattle.words.specs.leaf.Groups.{WidthIn, Fitting, Stepped}
+use Rattle.words.proofs.Fits.{tested_fits, fits_width, fits-answer}
+use Rattle.words.proofs.Groups.{stepped-words}
+use Rattle.words.proofs.Widths.{in_instance}
 use Rattle.words.proofs.run.Goals as goal
-use Rattle.words.proofs.run.Lts as lts
-use Rattle.words.proofs.run.Reads as reads
-use Rattle.words.proofs.run.Tie as tie
 
--- what the test says
-fitting : (c : lts.Else1 tie.the-claims reads.Pre reads.Post) → let a = c.args in Fits a.instance a.width a.count a.state
-fitting c = passed _ _ _ _ c.fits.ensures c.if-not-fits.false-raw
-
-pub returns-then-not-fits : goal.returns-then-not-fits
-returns-then-not-fits c = else_answer _ _ _ _ _ c.fits.ensures c.if-not-fits.true-raw
-
-pub groups-requires : goal.groups-requires
-groups-requires c =
-    let f = fitting c.before.before in
-    (fits_width f, f.words)
+pub steps-requires : goal.steps-requires
+steps-requires c =
+    let a = c.args in
+    let tested : fits a.instance a.width a.count a.state ≡ true = search rules in
+    let f = tested_fits a.instance a.width a.count a.state tested in
+    let e = sym c.from.ensures in (
+      subst (λ (I : Instance). WidthIn I.taps a.width) e (in_instance a.instance a.width (fits_width f)),
+      f.whole,
+      subst (λ (I : Instance). Fitting I.taps a.state) e f.words,
+    )
 
 pub returns : goal.returns
 returns c =
     let a = c.args in
-    let T = (instance_of a.instance).taps in
-    fits-answer _ _ _ _ (fitting c.before.before.before)
-    (stepped-words T a.count a.state c.groups.result (search rules) (search rules)
-    (subst (λ (n : ℕ). Forward T n a.state c.groups.result) (whole-groups a.count a.width (fitting c.before.before.before).whole) c.groups.ensures))
-
-pub nonzero_div-count : goal.nonzero_div-count
-nonzero_div-count c = fits-some (fitting c.before.before)
+    let tested : fits a.instance a.width a.count a.state ≡ true = search rules in
+    fits-answer _ _ _ _ (tested_fits a.instance a.width a.count a.state tested)
+    (stepped-words (instance_of a.instance).taps a.count a.state c.steps.result (search rules) (search rules)
+    (subst (λ (I : Instance). Stepped I.taps a.count a.state c.steps.result) c.from.ensures c.steps.ensures))

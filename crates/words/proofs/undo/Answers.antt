@@ -1,48 +1,46 @@
 -- `words::undo` meets its contract.
-use mathlib.Core.Path.{subst}
-use Prim.Native.Nat.{ℕ, ◌^◌, ◌<◌}
+use mathlib.Core.Bool.{true}
+use mathlib.Core.Path.{◌≡◌, sym, subst}
+use Prim.Native.Nat.{ℕ}
 use borrow.Author.Rules.{rules}
-use Rattle.quark.specs.Instance.{instance_of}
+use Rattle.quark.specs.Instance.{Instance, instance_of}
 use Rattle.quark.proofs.Instance.{regular}
-use Rattle.words.specs.leaf.Groups.{SteppedL, Preceding}
-use Rattle.words.proofs.Fits.{Fits, passed, fits_width, fits-some, fits-answer, else_answer}
-use Rattle.words.proofs.Groups.{whole-groups, whole-eights, undone_words}
-use Rattle.words.proofs.Widths.{some_width}
+use Rattle.words.specs.declared.RegisterWords.{RegisterWords}
+use Rattle.words.specs.Words.{fits}
+use Rattle.words.specs.leaf.Groups.{WidthIn, Fitting, SteppedL, Preceding}
+use Rattle.words.proofs.Fits.{tested_fits, fits_width, fits-answer}
+use Rattle.words.proofs.Groups.{whole-eights, undone_words}
+use Rattle.words.proofs.Widths.{some_width, in_instance}
 use Rattle.words.proofs.undo.Goals as goal
-use Rattle.words.proofs.undo.Lts as lts
-use Rattle.words.proofs.undo.Reads as reads
-use Rattle.words.proofs.undo.Tie as tie
 
--- what the test says
-fitting : (c : lts.Else1 tie.the-claims reads.Pre reads.Post) → let a = c.args in Fits a.instance a.width a.count a.state
-fitting c = passed _ _ _ _ c.fits.ensures c.if-not-fits.false-raw
+pub ahead-requires : goal.ahead-requires
+ahead-requires c =
+    let a = c.args in
+    let tested : fits a.instance a.width a.count a.state ≡ true = search rules in
+    (tested_fits a.instance a.width a.count a.state tested).words.fits_L
 
-pub returns-then-not-fits : goal.returns-then-not-fits
-returns-then-not-fits c = else_answer _ _ _ _ _ c.fits.ensures c.if-not-fits.true-raw
-
-pub groups_back-requires : goal.groups_back-requires
-groups_back-requires c =
-    let f = fitting c.before.before.before in
-    (fits_width f, record { fits_X = f.words.fits_X; fits_Y = f.words.fits_Y; fits_L = c.ahead.ensures.fits })
-
--- the low words that come back are below 2 ^ 64
-words : (c : goal.After-groups_back) → (c.groups_back.result.x.lo < 2 ^ 64) × (c.groups_back.result.y.lo < 2 ^ 64)
-words c = (search rules, search rules)
+pub steps_back-requires : goal.steps_back-requires
+steps_back-requires c =
+    let a = c.args in
+    let tested : fits a.instance a.width a.count a.state ≡ true = search rules in
+    let f = tested_fits a.instance a.width a.count a.state tested in
+    let e = sym c.from.ensures in
+    let after : RegisterWords = record { x = a.state.x; y = a.state.y; l = c.ahead.result } in (
+      subst (λ (I : Instance). WidthIn I.taps a.width) e (in_instance a.instance a.width (fits_width f)),
+      f.whole,
+      subst (λ (I : Instance). Fitting I.taps after) e
+          (record { fits_X = f.words.fits_X; fits_Y = f.words.fits_Y; fits_L = c.ahead.ensures.fits }),
+    )
 
 pub returns : goal.returns
 returns c =
     let a = c.args in
     let s = a.state in
-    let f = fitting c.before.before.before.before in
-    let T = (instance_of a.instance).taps in
-    let l = c.ahead.result in
+    let tested : fits a.instance a.width a.count s ≡ true = search rules in
+    let f = tested_fits a.instance a.width a.count s tested in
+    let r = c.steps_back.result in
+    let after : RegisterWords = record { x = s.x; y = s.y; l = c.ahead.result } in
     fits-answer _ _ _ _ f
-    (undone_words T (regular a.instance).lawful a.count s c.groups_back.result l (words c).0 (words c).1
-    (subst (λ (n : ℕ). SteppedL n s.l l) (whole-eights a.width a.count (some_width a.instance a.width (fits_width f)) f.whole) c.ahead.ensures)
-    (subst (λ (n : ℕ). Preceding T n s.x s.y l c.groups_back.result) (whole-groups a.count a.width f.whole) c.groups_back.ensures))
-
-pub ahead-requires : goal.ahead-requires
-ahead-requires c = (fitting c.before.before).words.fits_L
-
-pub nonzero_div-count-2 : goal.nonzero_div-count-2
-nonzero_div-count-2 c = fits-some (fitting c.before.before.before)
+    (undone_words (instance_of a.instance).taps (regular a.instance).lawful a.count s r c.ahead.result (search rules) (search rules)
+    (subst (λ (n : ℕ). SteppedL n s.l c.ahead.result) (whole-eights a.width a.count (some_width a.instance a.width (fits_width f)) f.whole) c.ahead.ensures)
+    (subst (λ (I : Instance). Preceding I.taps a.count after r) c.from.ensures c.steps_back.ensures))

@@ -1,16 +1,22 @@
 -- f, g and h in words: bit k of a word is the bit of step k of a group. Only the contracts of private functions cite these forms.
 use Rattle.std.specs.Prelude.{List, [], ◌∷◌, ◌≡◌, ℕ, zero, suc, ◌+◌, ◌*◌, ◌/◌, ◌%◌, ◌^◌, ◌<◌, get_or}
-use Rattle.quark.specs.Feedback.{Taps, exchange, sum_at}
+use Rattle.quark.specs.Feedback.{Taps, exchange, f, g, h, sum_at}
 use Rattle.quark.specs.Word.{word_bit}
 use Rattle.quark.specs.leaf.Places.{places_from}
 use Rattle.words.specs.declared.Register.{Register}
+use Rattle.words.specs.declared.feedback.Feedback.{Feedback}
 use Rattle.words.specs.declared.feedback.StepBits.{StepBits}
-use Rattle.words.specs.declared.masks.Masks.{Masks}
+use Rattle.words.specs.declared.taps.Masks.{Masks}
+use Rattle.words.specs.declared.taps.MixedTaps.{MixedTaps}
 use Rattle.words.specs.Words.{value}
 
 -- the bits of a register in step k of a group: those from place k on
 abbrev pub in_step : ℕ → Register → ℕ → ℕ
 in_step k r = word_bit (value r / 2 ^ k)
+
+-- taps that are places of a register
+abbrev pub InRegister : List ℕ → Type 0
+InRegister taps = (k : ℕ) → get_or taps k 0 < 128
 
 -- ---- f and g: products and linear taps
 
@@ -28,11 +34,6 @@ unfoldable pub products_at : List ℕ → (ℕ → ℕ) → ℕ
 products_at taps X =
     let a : ℕ → ℕ = λ k. X (get_or taps k 0) in
     products (a 1) (a 3) (a 4) (a 5) (a 6) (a 7) (a 8) (a 10) (a 11) (a 12)
-
--- the products of f in X and of g in Y in step k
-pub record ProductBits (T : Taps) (x y : Register) (w : StepBits) (k : ℕ) : Type 0 where
-  pub in_X : word_bit w.x k ≡ products_at T.f_taps (in_step k x) % 2
-  pub in_Y : word_bit w.y k ≡ products_at (exchange T.g_taps) (in_step k y) % 2
 
 -- the linear taps of f's sum
 unfoldable pub linear_taps : List ℕ → List ℕ
@@ -69,7 +70,29 @@ pub record OneWord (mask first : ℕ) : Type 0 where
 
 -- ---- h
 
+-- the taps of h's products
+unfoldable pub mixed_taps : Taps → MixedTaps
+mixed_taps T = record { y_low = T.y_low; x_low = T.x_low; x_mid = T.x_mid; x_high = T.x_high; y_high = T.y_high }
+
+pub record MixedInRegister (taps : MixedTaps) : Type 0 where
+  pub y_low : taps.y_low < 128
+  pub x_low : taps.x_low < 128
+  pub x_mid : taps.x_mid < 128
+  pub x_high : taps.x_high < 128
+  pub y_high : taps.y_high < 128
+
 -- h without the bits of X and Y that it adds by themselves
 unfoldable pub mixes : (l y3 x25 x46 x55 y59 : ℕ) → ℕ
 mixes l y3 x25 x46 x55 y59 =
     l + y3 * x55 + x46 * x55 + x55 * y59 + y3 * x25 * x46 + y3 * x46 * x55 + y3 * x46 * y59 + l * x25 * x46 * y59 + l * x25
+
+abbrev pub mixes_at : MixedTaps → (X Y : ℕ → ℕ) → ℕ → ℕ
+mixes_at taps X Y l = mixes l (Y taps.y_low) (X taps.x_low) (X taps.x_mid) (X taps.x_high) (Y taps.y_high)
+
+-- ---- the steps of a group
+
+-- words whose bits are f, g and h of registers in w steps, where bit k of l is L0 in step k
+pub record FeedbackBits (T : Taps) (w : ℕ) (x y : Register) (l : ℕ) (words : Feedback) : Type 0 where
+  pub of_F : (k : ℕ) → k < w → word_bit words.f k ≡ f T (in_step k x)
+  pub of_G : (k : ℕ) → k < w → word_bit words.g k ≡ g T (in_step k y)
+  pub of_H : (k : ℕ) → k < w → word_bit words.h k ≡ h T (in_step k x) (in_step k y) (λ i. word_bit l k)

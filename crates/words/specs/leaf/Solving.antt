@@ -7,9 +7,11 @@ use Rattle.words.specs.declared.Register.{Register}
 use Rattle.words.specs.declared.RegisterWords.{RegisterWords}
 use Rattle.words.specs.declared.back.Derivatives.{Derivatives}
 use Rattle.words.specs.declared.back.LowTaps.{LowTaps}
+use Rattle.words.specs.declared.feedback.Feedback.{Feedback}
 use Rattle.words.specs.declared.feedback.StepBits.{StepBits}
+use Rattle.words.specs.declared.taps.MixedTaps.{MixedTaps}
 use Rattle.words.specs.Words.{value}
-use Rattle.words.specs.leaf.FeedbackWords.{in_step}
+use Rattle.words.specs.leaf.FeedbackWords.{in_step, mixed_taps}
 
 -- ---- derivatives
 
@@ -27,28 +29,29 @@ products_derivative_at taps Y =
 unfoldable pub mixes_derivative : (x25 x46 x55 y59 : ℕ) → ℕ
 mixes_derivative x25 x46 x55 y59 = x55 + x25 * x46 + x46 * x55 + x46 * y59
 
+abbrev pub mixes_derivative_at : MixedTaps → (X Y : ℕ → ℕ) → ℕ
+mixes_derivative_at taps X Y = mixes_derivative (X taps.x_low) (X taps.x_mid) (X taps.x_high) (Y taps.y_high)
+
 -- the derivatives of g's products and of h in step k
 pub record DerivativeBits (T : Taps) (x y : Register) (d : Derivatives) (k : ℕ) : Type 0 where
   pub of_G : word_bit d.g k ≡ products_derivative_at (exchange T.g_taps) (in_step k y) % 2
-  pub of_H : word_bit d.h k ≡ mixes_derivative (in_step k x T.x_low) (in_step k x T.x_mid) (in_step k x T.x_high) (in_step k y T.y_high) % 2
+  pub of_H : word_bit d.h k ≡ mixes_derivative_at (mixed_taps T) (in_step k x) (in_step k y) % 2
 
 -- ---- the equations
 
 -- the known terms of the bits of X and of Y before step k, added: for X what X and Y gained, f and g; for Y what Y gained, g and h
-unfoldable pub known_X : (x y : Register) (products sums : StepBits) (kept k : ℕ) → ℕ
-known_X x y products sums kept k =
-    word_bit (value x) (kept + k) + (word_bit products.x k + word_bit sums.x k)
-    + (word_bit (value y) (kept + k) + (word_bit products.y k + word_bit sums.y k))
+unfoldable pub known_X : RegisterWords → (words : Feedback) (kept k : ℕ) → ℕ
+known_X s words kept k = word_bit (value s.x) (kept + k) + word_bit words.f k + (word_bit (value s.y) (kept + k) + word_bit words.g k)
 
-unfoldable pub known_Y : (y : Register) (products sums : StepBits) (h kept k : ℕ) → ℕ
-known_Y y products sums h kept k = word_bit (value y) (kept + k) + (word_bit products.y k + word_bit sums.y k) + word_bit h k
+unfoldable pub known_Y : RegisterWords → (words : Feedback) (kept k : ℕ) → ℕ
+known_Y s words kept k = word_bit (value s.y) (kept + k) + word_bit words.g k + word_bit words.h k
 
 -- words of w bits that have them
-pub record KnownTerms (x y : Register) (products sums : StepBits) (h kept w : ℕ) (known : StepBits) : Type 0 where
+pub record KnownTerms (s : RegisterWords) (words : Feedback) (kept w : ℕ) (known : StepBits) : Type 0 where
   pub few_X : known.x < 2 ^ w
   pub few_Y : known.y < 2 ^ w
-  pub bit_X : (k : ℕ) → k < w → word_bit known.x k ≡ known_X x y products sums kept k % 2
-  pub bit_Y : (k : ℕ) → k < w → word_bit known.y k ≡ known_Y y products sums h kept k % 2
+  pub bit_X : (k : ℕ) → k < w → word_bit known.x k ≡ known_X s words kept k % 2
+  pub bit_Y : (k : ℕ) → k < w → word_bit known.y k ≡ known_Y s words kept k % 2
 
 -- what g and h add in step k by the bits that are to be found: g by its low tap, h by X1 and its low taps
 unfoldable pub read_by_G : LowTaps → Derivatives → (new : StepBits) → ℕ → ℕ
@@ -75,12 +78,12 @@ pub record Solvable (taps : LowTaps) (w : ℕ) : Type 0 where
   pub past_Y : w ≤ taps.g + taps.y
   pub past_G : w ≤ taps.g + taps.g
 
--- the registers of a state are x and y before w steps: moved up by w, with w new bits, which solve the equations, before those kept
-pub record BeforeGroup (x y : Register) (products sums : StepBits) (h : ℕ) (d : Derivatives) (taps : LowTaps) (kept w : ℕ) (s : RegisterWords) : Type 0 where
+-- the registers of t are those of s before w steps: moved up by w, with w new bits, which solve the equations, before those kept
+pub record BeforeGroup (s : RegisterWords) (words : Feedback) (d : Derivatives) (taps : LowTaps) (kept w : ℕ) (t : RegisterWords) : Type 0 where
   pub new : StepBits
   pub few_X : new.x < 2 ^ w
   pub few_Y : new.y < 2 ^ w
-  pub moved_X : value s.x ≡ value x % 2 ^ kept * 2 ^ w + new.x
-  pub moved_Y : value s.y ≡ value y % 2 ^ kept * 2 ^ w + new.y
-  pub bit_X : (k : ℕ) → k < w → word_bit new.x k ≡ (known_X x y products sums kept k + read_by_G taps d new k) % 2
-  pub bit_Y : (k : ℕ) → k < w → word_bit new.y k ≡ (known_Y y products sums h kept k + read_by_G taps d new k + read_by_H taps d new k) % 2
+  pub moved_X : value t.x ≡ value s.x % 2 ^ kept * 2 ^ w + new.x
+  pub moved_Y : value t.y ≡ value s.y % 2 ^ kept * 2 ^ w + new.y
+  pub bit_X : (k : ℕ) → k < w → word_bit new.x k ≡ (known_X s words kept k + read_by_G taps d new k) % 2
+  pub bit_Y : (k : ℕ) → k < w → word_bit new.y k ≡ (known_Y s words kept k + read_by_G taps d new k + read_by_H taps d new k) % 2

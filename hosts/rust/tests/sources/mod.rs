@@ -20,7 +20,7 @@ pub fn names(below: &str) -> Vec<String> {
     names
 }
 
-/// A refusal as the Rattle sources have it: its number, the name of its constant, and the sentence of the comment above that.
+/// A refusal as the Rattle sources have it: its number, the name of its line, and the sentence of the comment above that.
 #[derive(Clone, Debug, PartialEq, Eq, PartialOrd, Ord)]
 pub struct Refusal {
     pub number: u32,
@@ -28,21 +28,33 @@ pub struct Refusal {
     pub sentence: String,
 }
 
-/// The refusals of the Rattle sources, the constants of every `src/lines.rt`, by number. Each stands below a comment `// NUMBER. SENTENCE`.
+impl Refusal {
+    /// The name as the header and Rust write it: `UnknownInstance` is `UNKNOWN_INSTANCE`.
+    #[allow(dead_code)]
+    pub fn constant(&self) -> String {
+        let words =
+            self.name
+                .char_indices()
+                .map(|(at, c)| if at > 0 && c.is_uppercase() { format!("_{c}") } else { c.to_uppercase().to_string() });
+        words.collect()
+    }
+}
+
+/// The refusals of the Rattle sources, the lines of the enum `Line`, by number. Each stands below a comment `// NUMBER. SENTENCE`.
 pub fn refusals() -> Vec<Refusal> {
-    let files = names("crates").into_iter().map(|name| format!("crates/{name}/src/lines.rt")).filter(|file| path(file).is_file());
-    let sources: String = files.map(|file| text(&file)).collect();
-    let pairs = sources.lines().zip(sources.lines().skip(1));
-    let mut found: Vec<Refusal> = pairs
-        .filter_map(|(above, line)| {
-            let constant = line.strip_prefix("pub ").unwrap_or(line).strip_prefix("const ")?;
-            let (name, number) = constant.trim_end_matches(';').split_once(": u32 = ").expect("a constant of type u32");
+    let source = text("crates/refusals/src/lines.rt");
+    let variants = source.lines().skip_while(|line| *line != "pub enum Line {").skip(1).take_while(|line| *line != "}");
+    let variants: Vec<&str> = variants.map(str::trim).collect();
+    let found: Vec<Refusal> = variants
+        .chunks(2)
+        .map(|pair| {
+            let [above, variant] = pair else { panic!("a line of `Line` without its comment: {pair:?}") };
+            let (name, number) = variant.trim_end_matches(',').split_once(" = ").expect("a variant with its number");
             let sentence = above.strip_prefix(&format!("// {number}. "));
             let sentence = sentence.unwrap_or_else(|| panic!("the comment above {name} is '{above}'"));
-            Some(Refusal { number: number.parse().unwrap(), name: name.into(), sentence: sentence.into() })
+            Refusal { number: number.parse().unwrap(), name: name.into(), sentence: sentence.into() }
         })
         .collect();
-    found.sort();
-    assert!(!found.is_empty());
+    assert!(!found.is_empty() && found.is_sorted());
     found
 }

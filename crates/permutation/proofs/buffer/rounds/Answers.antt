@@ -1,17 +1,17 @@
--- `rounds` meets its contract: 4b of the instance that each test leads to.
-use borrow.Author.Tests.{eq-eqb, ne_eqb}
+-- `rounds` meets its contract: 4b of each instance.
 use Rattle.quark.specs.Step.{rounds}
-use Rattle.quark.specs.Instance.{instance_of, U, D, S}
+use Rattle.quark.specs.Instance.{U, D, S}
+use Rattle.words.specs.Instances.{named}
 use Rattle.permutation.proofs.buffer.rounds.Goals as goal
 
-pub returns-then-instance-eq1 : goal.returns-then-instance-eq1
-unfolding rounds instance_of U
-returns-then-instance-eq1 c = simp (eq-eqb _ _ c.if-instance-eq1.true)
+pub returns-in-U : goal.returns-in-U
+unfolding rounds named U
+returns-in-U c = rw c.in-U.is
 
-pub returns-then-instance-eq2 : goal.returns-then-instance-eq2
-unfolding rounds instance_of D
-returns-then-instance-eq2 c = simp (ne_eqb _ _ c.if-instance-eq1.false, eq-eqb _ _ c.if-instance-eq2.true)
+pub returns-in-D : goal.returns-in-D
+unfolding rounds named D
+returns-in-D c = rw c.in-D.is
 
-pub returns : goal.returns
-unfolding rounds instance_of S
-returns c = simp (ne_eqb _ _ c.if-instance-eq1.false, ne_eqb _ _ c.if-instance-eq2.false)
+pub returns-in-S : goal.returns-in-S
+unfolding rounds named S
+returns-in-S c = rw c.in-S.is

@@ -1,10 +1,7 @@
 -- `bytes::store` meets its contract: after j passes the first j bytes are stored.
-use Rattle.std.specs.Prelude.{◌≡◌, ◌-◌, ◌≤◌, ◌++◌, length, drop}
+use Rattle.std.specs.Prelude.{◌≡◌, ◌++◌, drop}
 use Rattle.quark.specs.Bytes.{tabulate, byte_at}
 use Rattle.permutation.proofs.bytes.store.Given as goal
 
 abbrev pub invariant-loop-j : goal.invariant-loop-j
-invariant-loop-j l = (length l.buffer ≡ length l.initial.buffer) × (l.j ≤ length l.buffer) × (l.buffer ≡ tabulate l.j (byte_at l.bits) ++ drop l.j l.initial.buffer)
-
-abbrev pub decreases-loop-j : goal.decreases-loop-j
-decreases-loop-j l = length l.buffer - l.j
+invariant-loop-j l = l.buffer ≡ tabulate l.j (byte_at l.bits) ++ drop l.j l.initial.buffer

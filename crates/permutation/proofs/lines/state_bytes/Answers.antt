@@ -1,16 +1,17 @@
--- `state_bytes` meets its contract: b/8 of the instance that each test leads to.
-use borrow.Author.Tests.{eq-eqb, ne_eqb}
-use Rattle.quark.specs.Instance.{instance_of, U, D, S, state_bytes}
+-- `state_bytes` meets its contract: b/8 of the instance.
+use Rattle.std.proofs.Common.{rules}
+use Rattle.quark.specs.Instance.{U, D, S, state_bytes}
+use Rattle.words.specs.Instances.{named}
 use Rattle.permutation.proofs.lines.state_bytes.Goals as goal
 
-pub returns-then-instance-eq1 : goal.returns-then-instance-eq1
-unfolding state_bytes instance_of U
-returns-then-instance-eq1 c = simp (eq-eqb _ _ c.if-instance-eq1.true)
+pub returns-in-U : goal.returns-in-U
+unfolding state_bytes named U
+returns-in-U c = search rules
 
-pub returns-then-instance-eq2 : goal.returns-then-instance-eq2
-unfolding state_bytes instance_of D
-returns-then-instance-eq2 c = simp (ne_eqb _ _ c.if-instance-eq1.false, eq-eqb _ _ c.if-instance-eq2.true)
+pub returns-in-D : goal.returns-in-D
+unfolding state_bytes named D
+returns-in-D c = search rules
 
-pub returns : goal.returns
-unfolding state_bytes instance_of S
-returns c = simp (ne_eqb _ _ c.if-instance-eq1.false, ne_eqb _ _ c.if-instance-eq2.false)
+pub returns-in-S : goal.returns-in-S
+unfolding state_bytes named S
+returns-in-S c = search rules

@@ -11,7 +11,7 @@ use Rattle.permutation.proofs.serial.feedback_at.Goals as goal
 pub feedback_sum-requires : goal.feedback_sum-requires
 feedback_sum-requires c =
     let p = c.requires.cells in
-    rw c.bits_at.ensures (bits_at (bits-tabulate 13 (λ k. bit c.args.register.now (get_or c.args.taps k 0)) (λ k. p _)))
+    rw c.bits_at.ensures (bits_at (bits-tabulate 13 (λ k. bit c.args.register.now (get_or c.args.taps.now k 0)) (λ k. p _)))
 
 pub returns : goal.returns
 returns c = c.feedback_sum.ensures ∙ ap (λ (l : List ℕ). feedback indices (bit l)) c.bits_at.ensures ∙ feedback-bits_at _ _

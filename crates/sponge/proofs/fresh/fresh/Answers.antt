@@ -1,10 +1,7 @@
--- `fresh` meets its contract.
+-- `fresh` meets its contract: all is zero but the instance and the initial bits.
 use Rattle.sponge.specs.Soundness.{fresh, state_with}
 use Rattle.sponge.proofs.fresh.fresh.Goals as goal
 
-pub initial-bits-requires : goal.initial-bits-requires
-initial-bits-requires c = tt
-
 pub returns : goal.returns
 unfolding fresh state_with
-returns c = cc
+returns c = rw (c.zeros.ensures, c.initial.ensures) cc

@@ -3,12 +3,6 @@ use mathlib.Core.Path.{ap, ◌∙◌}
 use Rattle.refusals.specs.Outcome.{number_of}
 use Rattle.wilbroged.proofs.digest.quark_digest.Goals as goal
 
-pub digest-requires : goal.digest-requires
-digest-requires c = tt
-
-pub number_of-requires : goal.number_of-requires
-number_of-requires c = tt
-
 pub returns : goal.returns
 returns c =
     let call = c.digest in record {

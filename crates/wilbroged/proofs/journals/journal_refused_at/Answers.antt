@@ -1,15 +1,12 @@
--- `journal_refused_at` meets its contract: it is `verify`, with the place of its outcome.
-use mathlib.Core.Path.{ap, ◌∙◌}
-use Rattle.refusals.specs.declared.Refusal.{Refusal}
-use Rattle.refusals.specs.Outcome.{place_of, refusal_of}
+-- `journal_refused_at` meets its contract: each arm is the place of the answer that it takes.
+use mathlib.Core.Path.{ap}
+use Rattle.refusals.specs.Outcome.{outcome_of, place_of}
 use Rattle.wilbroged.proofs.journals.journal_refused_at.Goals as goal
 
-pub verify-requires : goal.verify-requires
-verify-requires c = tt
+pub returns-in-Ok : goal.returns-in-Ok
+unfolding place_of outcome_of
+returns-in-Ok c = ap place_of c.in-Ok.ensures
 
-pub refusal_of-requires : goal.refusal_of-requires
-refusal_of-requires c = tt
-
-pub returns : goal.returns
-unfolding refusal_of
-returns c = ap (λ (r : Refusal). r.place) c.refusal_of.ensures ∙ ap place_of c.verify.ensures
+pub returns-in-Err : goal.returns-in-Err
+unfolding place_of outcome_of
+returns-in-Err c = ap place_of c.in-Err.ensures

@@ -3,12 +3,6 @@ use mathlib.Core.Path.{ap, ◌∙◌}
 use Rattle.refusals.specs.Outcome.{number_of}
 use Rattle.wilbroged.proofs.steps.quark_steps_back.Goals as goal
 
-pub steps_back-requires : goal.steps_back-requires
-steps_back-requires c = tt
-
-pub number_of-requires : goal.number_of-requires
-number_of-requires c = tt
-
 pub returns : goal.returns
 returns c =
     let call = c.steps_back in record {

@@ -18,8 +18,8 @@ unfolding ◌&◌ ◌⊕◌
 returns c k h =
     let a = c.args in
     let x : ℕ = value a.x in
-    let e1 = window_bit x a.x_low k h c.window.ensures in
-    let e2 = window_bit x a.x_mid k h c.window-mid.ensures in
-    let e3 = window_bit x a.x_high k h c.window-high.ensures in
-    let e4 = window_bit (value a.y) a.y_high k h c.window-2.ensures in
+    let e1 = window_bit x a.taps.x_low k h c.window.ensures in
+    let e2 = window_bit x a.taps.x_mid k h c.window-mid.ensures in
+    let e3 = window_bit x a.taps.x_high k h c.window-high.ensures in
+    let e4 = window_bit (value a.y) a.taps.y_high k h c.window-2.ensures in
     law c.window.result c.window-mid.result c.window-high.result c.window-2.result k ∙ (λ i. mixes_derivative (e1 i) (e2 i) (e3 i) (e4 i) % 2)

@@ -1,10 +1,6 @@
 -- `words::feedback::four_sums` meets its contract. The invariant: the bits are the later ones and those of the steps from j on.
-use Prim.Native.Nat.{◌≤◌}
 use Rattle.words.proofs.OneWord.{SumsFrom}
 use Rattle.words.proofs.feedback.four_sums.Given as goal
 
 abbrev pub invariant-loop-j : goal.invariant-loop-j
-invariant-loop-j l = (l.j ≤ 4) × SumsFrom l.later l.word l.mask l.j l.bits
-
-abbrev pub decreases-loop-j : goal.decreases-loop-j
-decreases-loop-j l = l.j
+invariant-loop-j l = SumsFrom l.later l.word l.mask l.j l.bits

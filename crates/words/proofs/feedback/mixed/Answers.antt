@@ -1,10 +1,11 @@
 -- `words::feedback::mixed` meets its contract.
-use mathlib.Core.Path.{◌≡◌}
+use mathlib.Core.Path.{◌≡◌, ◌∙◌}
 use Prim.Native.Nat.{ℕ, ◌%◌}
 use native.Mathlib.Nat.{mod-add-mod}
 use Rattle.quark.specs.Word.{word_bit}
+use Rattle.words.specs.Words.{value}
 use Rattle.words.specs.leaf.FeedbackWords.{mixes}
-use Rattle.words.proofs.Sums.{◌&◌, ◌⊕◌, bit-&, bit-⊕}
+use Rattle.words.proofs.Sums.{◌&◌, ◌⊕◌, bit-&, bit-⊕, window_bit}
 use Rattle.words.proofs.feedback.mixed.Goals as goal
 
 law : (l y3 x25 x46 x55 y59 k : ℕ)
@@ -15,6 +16,12 @@ law l y3 x25 x46 x55 y59 k = simp (bit-⊕, bit-&, mod-add-mod)
 
 pub returns : goal.returns
 unfolding ◌&◌ ◌⊕◌
-returns c k =
+returns c k h =
     let a = c.args in
-    law a.l a.y3 a.x25 a.x46 a.x55 a.y59 k
+    let t = a.taps in
+    let y3 = window_bit (value a.y) t.y_low k h c.window-y3.ensures in
+    let x25 = window_bit (value a.x) t.x_low k h c.window-x25.ensures in
+    let x46 = window_bit (value a.x) t.x_mid k h c.window-x46.ensures in
+    let x55 = window_bit (value a.x) t.x_high k h c.window-x55.ensures in
+    let y59 = window_bit (value a.y) t.y_high k h c.window-y59.ensures in
+    law a.l _ _ _ _ _ k ∙ (λ i. mixes (word_bit a.l k) (y3 i) (x25 i) (x46 i) (x55 i) (y59 i) % 2)

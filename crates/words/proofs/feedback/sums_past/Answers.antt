@@ -1,30 +1,7 @@
 -- `words::feedback::sums_past` meets its contract.
-use native.Mathlib.Omega.{arith}
-use borrow.Author.Rules.{rules}
-use lib.Dec.{lit<}
 use Rattle.words.specs.Words.{value}
 use Rattle.words.proofs.OneWord.{eight_sums, four_lt}
 use Rattle.words.proofs.feedback.sums_past.Goals as goal
-
-pub window-taps-requires : goal.window-taps-requires
-window-taps-requires c =
-    let h = c.requires.1.place.1 in
-    omega arith
-
-pub overflow_add-first : goal.overflow_add-first
-overflow_add-first c =
-    let h = c.requires.1.place.1 in
-    search rules
-
-pub window-requires : goal.window-requires
-window-requires c =
-    let h = c.requires.1.place.1 in
-    omega arith
-
-pub window-requires-2 : goal.window-requires-2
-window-requires-2 c =
-    let h = c.requires.1.place.1 in
-    omega arith
 
 pub four_sums-requires : goal.four_sums-requires
 four_sums-requires c =
@@ -34,6 +11,3 @@ pub returns : goal.returns
 returns c =
     eight_sums (value c.args.r) (value c.args.mask) c.args.first c.requires.1 c.requires.0 c.window-2.result c.window.result c.window-taps.result
     c.four_sums-later.result c.four_sums.result c.window-2.ensures c.window.ensures c.window-taps.ensures c.four_sums-later.ensures c.four_sums.ensures
-
-pub four_sums-later-requires : goal.four_sums-later-requires
-four_sums-later-requires c = lit< tt

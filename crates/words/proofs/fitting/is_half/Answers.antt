@@ -4,35 +4,31 @@ use Prim.Native.Nat.{◌^◌, ◌<◌}
 use borrow.Author.Rules.{rules}
 use lib.Dec.{ltb}
 use Rattle.quark.specs.Instance.{Instance, U, D, S}
-use Rattle.quark.proofs.Instance.{is_U, is_D, is_S}
+use Rattle.words.specs.declared.instances.Instance.TheVariants as variants
+use Rattle.words.specs.Instances.{named}
 use Rattle.words.specs.Words.{value}
 use Rattle.words.proofs.Fits.{half-test, half_full}
+use Rattle.words.proofs.Widths.{is_named}
 use Rattle.words.proofs.fitting.is_half.Goals as goal
-use Rattle.words.proofs.fitting.is_half.Lts as lts
-use Rattle.words.proofs.fitting.is_half.Reads as reads
 
--- the words are words
-low : (s : lts.Start reads.Pre reads.Post) → s.args.r.lo < 2 ^ 64
-low s = search rules
-
-high : (s : lts.Start reads.Pre reads.Post) → s.args.r.hi < 2 ^ 64
-high s = search rules
-
-pub returns-then-instance-eq1 : goal.returns-then-instance-eq1
-unfolding U
-returns-then-instance-eq1 c =
+pub returns-in-U : goal.returns-in-U
+unfolding U named
+returns-in-U c =
     let r = c.args.r in
-    half-test 68 4 r.hi r.lo refl (low c.before.before) ∙ ap (λ (I : Instance). ltb (value r) (2 ^ I.taps.half)) (sym (is_U c.args.instance c.if-instance-eq1.true))
+    let low : r.lo < 2 ^ 64 = search rules in
+    half-test 68 4 r.hi r.lo refl low ∙ ap (λ (I : Instance). ltb (value r) (2 ^ I.taps.half)) (sym (is_named variants.U c.in-U.is c.from.ensures))
 
-pub returns-then-instance-eq2 : goal.returns-then-instance-eq2
-unfolding D
-returns-then-instance-eq2 c =
+pub returns-in-D : goal.returns-in-D
+unfolding D named
+returns-in-D c =
     let r = c.args.r in
-    half-test 88 24 r.hi r.lo refl (low c.before.before.before) ∙ ap (λ (I : Instance). ltb (value r) (2 ^ I.taps.half)) (sym (is_D c.args.instance c.if-instance-eq2.true))
+    let low : r.lo < 2 ^ 64 = search rules in
+    half-test 88 24 r.hi r.lo refl low ∙ ap (λ (I : Instance). ltb (value r) (2 ^ I.taps.half)) (sym (is_named variants.D c.in-D.is c.from.ensures))
 
-pub returns : goal.returns
-unfolding S
-returns c =
+pub returns-in-S : goal.returns-in-S
+unfolding S named
+returns-in-S c =
     let r = c.args.r in
-    half_full 128 64 r.hi r.lo refl (low c.before.before) (high c.before.before)
-    ∙ ap (λ (I : Instance). ltb (value r) (2 ^ I.taps.half)) (sym (is_S c.args.instance c.if-instance-eq1.false c.if-instance-eq2.false))
+    let low : r.lo < 2 ^ 64 = search rules in
+    let high : r.hi < 2 ^ 64 = search rules in
+    half_full 128 64 r.hi r.lo refl low high ∙ ap (λ (I : Instance). ltb (value r) (2 ^ I.taps.half)) (sym (is_named variants.S c.in-S.is c.from.ensures))

@@ -1,11 +1,7 @@
--- `words::forward::groups` meets its contract. The invariant: i groups have been taken.
-use Prim.Native.Nat.{◌*◌, ◌-◌, ◌≤◌}
-use Rattle.quark.specs.Instance.{instance_of}
-use Rattle.words.proofs.Groups.{Forward}
+-- `words::forward::groups` meets its contract. The invariant: as many groups as were counted have been taken.
+use Prim.Native.Nat.{◌*◌}
+use Rattle.words.specs.leaf.Groups.{Stepped}
 use Rattle.words.proofs.forward.groups.Given as goal
 
-abbrev pub invariant-loop-i : goal.invariant-loop-i
-invariant-loop-i l = (l.i ≤ l.count) × Forward (instance_of l.instance).taps (l.i * l.width) l.initial.s l.s
-
-abbrev pub decreases-loop-i : goal.decreases-loop-i
-decreases-loop-i l = l.count - l.i
+abbrev pub invariant-loop : goal.invariant-loop
+invariant-loop g l = Stepped g.T.Quark.taps (l.counter * g.row.WIDTH) l.fn.state l.s

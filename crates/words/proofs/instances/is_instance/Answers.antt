@@ -1,16 +1,14 @@
--- `words::instances::is_instance` meets its contract: each return is the test on the way to it.
-use borrow.Author.Tests.{eq-eqb, ne_eqb}
-use Rattle.quark.specs.Instance.{is_instance}
+-- `words::instances::is_instance` meets its contract.
+use mathlib.Core.Path.{sym}
+use native.Mathlib.Omega.{arith}
+use Rattle.words.proofs.Widths.{one_to_three, no_instance}
 use Rattle.words.proofs.instances.is_instance.Goals as goal
 
-pub returns-then-instance-eq1 : goal.returns-then-instance-eq1
-unfolding is_instance
-returns-then-instance-eq1 c = simp (eq-eqb _ _ c.if-instance-eq1.true)
+pub returns-in-1-to-3 : goal.returns-in-1-to-3
+returns-in-1-to-3 c = sym (one_to_three c.args.instance (omega arith) (omega arith))
 
-pub returns-then-instance-eq2 : goal.returns-then-instance-eq2
-unfolding is_instance
-returns-then-instance-eq2 c = simp (ne_eqb _ _ c.if-instance-eq1.false, eq-eqb _ _ c.if-instance-eq2.true)
+pub returns-in_default : goal.returns-in_default
+returns-in_default c = sym (no_instance c.args.instance (λ e. omega arith) (λ e. omega arith) (λ e. omega arith))
 
-pub returns : goal.returns
-unfolding is_instance
-returns c = simp (ne_eqb _ _ c.if-instance-eq1.false, ne_eqb _ _ c.if-instance-eq2.false)
+pub returns-in_default-2 : goal.returns-in_default-2
+returns-in_default-2 c = sym (no_instance c.args.instance (λ e. omega arith) (λ e. omega arith) (λ e. omega arith))

@@ -1,20 +1,21 @@
--- `words::instances::is_width` meets its contract: each return is the test on the way to it.
+-- `words::instances::is_width` meets its contract.
+use mathlib.Core.Logic.{⊎_elim}
+use native.Mathlib.Omega.{arith}
+use borrow.Author.Rules.{rules}
 use borrow.Author.Tests.{eq-eqb, ne_eqb}
 use Rattle.quark.specs.Instance.{is_width}
 use Rattle.words.proofs.instances.is_width.Goals as goal
 
-pub returns-then-width-eq1 : goal.returns-then-width-eq1
+pub returns-in-1 : goal.returns-in-1
 unfolding is_width
-returns-then-width-eq1 c = simp (eq-eqb _ _ c.if-width-eq1.true)
+returns-in-1 c = ⊎_elim (λ e. simp (eq-eqb c.args.width 1 e)) (λ e. simp (ne_eqb c.args.width 1 (λ one. omega arith), eq-eqb c.args.width 8 e)) c.in-1.is
 
-pub returns-then-width-eq8 : goal.returns-then-width-eq8
+pub returns-in-16 : goal.returns-in-16
 unfolding is_width
-returns-then-width-eq8 c = simp (ne_eqb _ _ c.if-width-eq1.false, eq-eqb _ _ c.if-width-eq8.true)
+returns-in-16 c =
+    let e = c.in-16.is in
+    simp (ne_eqb c.args.width 1 (λ one. omega arith), ne_eqb c.args.width 8 (λ eight. omega arith), eq-eqb c.args.width 16 e)
 
-pub returns-then-width-eq16 : goal.returns-then-width-eq16
+pub returns-in_default : goal.returns-in_default
 unfolding is_width
-returns-then-width-eq16 c = simp (ne_eqb _ _ c.if-width-eq1.false, ne_eqb _ _ c.if-width-eq8.false, eq-eqb _ _ c.if-width-eq16.true)
-
-pub returns : goal.returns
-unfolding is_width
-returns c = simp (ne_eqb _ _ c.if-width-eq1.false, ne_eqb _ _ c.if-width-eq8.false, ne_eqb _ _ c.if-width-eq16.false)
+returns-in_default c = search rules

@@ -5,12 +5,6 @@ use native.Mathlib.Omega.{arith}
 use Rattle.words.proofs.Groups.{L-composes}
 use Rattle.words.proofs.strides.ahead.Goals as goal
 
-pub steps_of_l_by_24-requires : goal.steps_of_l_by_24-requires
-steps_of_l_by_24-requires c = c.requires
-
-pub steps_of_l_by_8-requires : goal.steps_of_l_by_8-requires
-steps_of_l_by_8-requires c = c.steps_of_l_by_24.ensures.fits
-
 pub returns : goal.returns
 returns c =
     let a = c.args in

@@ -1,4 +1,5 @@
--- `words::strides::steps_of_l_by_24` meets its contract. The invariant: the forty bits are those after i times 24 steps.
+-- `words::strides::steps_of_l_by_24` meets its contract. The invariant: the forty bits are those after as many times 24 steps as were
+-- counted.
 use mathlib.Core.Path.{◌≡◌, ap, ◌∙◌}
 use Prim.Native.Nat.{ℕ, ◌+◌, ◌*◌}
 use native.Mathlib.Omega.{arith}
@@ -8,26 +9,22 @@ use Rattle.quark.specs.Word.{word_bits}
 use Rattle.words.proofs.LStrides.{forty_further, ten_of_forty}
 use Rattle.words.proofs.strides.steps_of_l_by_24.Goals as goal
 
-pub forty_bits_of_l-bits-requires : goal.forty_bits_of_l-bits-requires
-forty_bits_of_l-bits-requires c = c.requires
-
-pub loop-i-init : goal.loop-i-init
+pub loop-init : goal.loop-init
 unfolding steps_L
-loop-i-init c = (omega arith, c.forty_bits_of_l-bits.ensures)
+loop-init c = c.forty_bits_of_l-bits.ensures
 
-pub loop-i-preserved : goal.loop-i-preserved
-loop-i-preserved c =
-    let l = c.args.l in
-    let i = c.loop-i.i in
+pub loop-preserved : goal.loop-preserved
+loop-preserved c =
+    let i = c.loop.counter in
     let e : i * 24 + 24 ≡ (i + 1) * 24 = omega arith in
-    (search rules, rw e at (forty_further l (i * 24) c.loop-i.bits c.loop-i.invariant.1))
+    rw e at (forty_further c.args.l (i * 24) c.loop.bits c.loop.invariant)
 
 pub returns : goal.returns
 returns c =
     let a = c.args in
-    let i = c.loop-i.i in
+    let i = c.loop.counter in
     let e : i ≡ a.count = omega arith in
     record {
       fits = search rules;
-      stepped = ten_of_forty a.l (i * 24) c.loop-i.bits c.loop-i.invariant.1.1 ∙ ap (λ (n : ℕ). steps_L (n * 24) (word_bits 10 a.l)) e;
+      stepped = ten_of_forty a.l (i * 24) c.loop.bits c.loop.invariant.1 ∙ ap (λ (n : ℕ). steps_L (n * 24) (word_bits 10 a.l)) e;
     }

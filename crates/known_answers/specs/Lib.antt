@@ -1,0 +1,3 @@
+-- What bytes in hexadecimal and a state's fields are as text.
+pub mod Fields
+pub mod Hex

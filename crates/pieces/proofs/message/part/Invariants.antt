@@ -1,6 +1,0 @@
--- The measure is the number of bits that are left.
-use Rattle.std.proofs.Common.{◌-◌}
-use Rattle.pieces.proofs.message.part.Given as goal
-
-abbrev pub decreases-loop-i : goal.decreases-loop-i
-decreases-loop-i l = l.count - l.i

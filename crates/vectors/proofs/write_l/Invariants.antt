@@ -1,9 +1,0 @@
--- The measure is i, which starts at 10.
-use Rattle.std.proofs.Common.{◌≤◌}
-use Rattle.vectors.proofs.write_l.Given as goal
-
-abbrev pub invariant-loop-i : goal.invariant-loop-i
-invariant-loop-i g l = l.i ≤ 10
-
-abbrev pub decreases-loop-i : goal.decreases-loop-i
-decreases-loop-i g l = l.i
