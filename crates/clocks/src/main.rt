@@ -6,19 +6,23 @@
 
 ghost use Rattle.std.specs.Prelude.{◌≤◌};
 
-use known_answers::{FIRST_OF_D, FIRST_OF_S, FIRST_OF_U, Hex, write_refusal};
+use known_answers::{FIRST_OF_D, FIRST_OF_S, FIRST_OF_U, Hex, Refused};
 use std::io;
 
 // Steps up to a clock, writes a line with the registers there, and steps back.
 fn write_clock(rt: &impl Print, instance: u32, count: u32, state: &mut [u8]) -> io::Result<()> {
     match permutation::steps(instance, 8, 1023, count, state) {
         Ok(l) => println!(rt; "{count} {l:010b} {}", Hex(state))?,
-        refused => write_refusal(rt, refused)?,
+        refused => print!(rt; "{}", Refused(refused))?,
     }
-    write_refusal(rt, permutation::steps_back(instance, 8, 1023, count, state))
+    print!(rt;
+        "{}",
+        Refused(permutation::steps_back(instance, 8, 1023, count, state))
+    )
 }
 
-// The table of an instance under a heading, from a first state. P has `groups` groups of 8 steps.
+// The table of an instance under a heading, from a first state. P has `groups` groups of 8 steps. The instance is the number that the
+// operations take.
 fn write_clocks<const B: usize>(
     rt: &impl Print,
     heading: &str,

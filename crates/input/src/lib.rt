@@ -19,6 +19,7 @@ pub fn gather<R: Read>(input: &mut R, buffer: &mut [u8]) -> Result<usize, ReadFa
     ensures bytes { IfOk result (λ count. Consumes (R.remaining input.old) (R.remaining input.new) (take count buffer.new)) }
     ensures end { IfOk result (λ count. count < length buffer.old → IsAtEnd (R.remaining input.new)) }
     ensures after { IfErr result (λ failed. failed.after ≤ length buffer.old) }
+    ensures lost { IfErr result (λ failed. Consumes (R.remaining input.old) (R.remaining input.new) (take failed.after buffer.new)) }
 {
     let mut done: usize = 0;
     // how many reads it takes is not known, and no method of the library counts what came before a read that failed

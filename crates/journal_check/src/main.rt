@@ -33,7 +33,7 @@ fn read_input(rt: &(impl Input + Eprint), buffer: &mut [u8]) -> usize
     }
 }
 
-// Prints a line.
+// Prints a line, which `report` gives as bytes, and no text.
 fn print(rt: &(impl Print + Eprint), line: &[u8]) {
     if rt.write_all(line).is_err() {
         let _ = rt.eprintln("journal_check: writing standard output failed");

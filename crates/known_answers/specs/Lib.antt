@@ -1,3 +1,5 @@
--- What bytes in hexadecimal and a state's fields are as text.
+-- What bytes in hexadecimal, a state's fields, a refusal and a digest are as text.
+pub mod Digest
 pub mod Fields
 pub mod Hex
+pub mod Refused

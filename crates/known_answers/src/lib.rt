@@ -1,15 +1,18 @@
 // What the programs that print known answers share: the first states of the paper's Appendix B, forged states, sizes of the instances, and
-// text.
+// text. An instance is the number that the operations take: two of the programs pass wrong ones.
 #![tactic(auto)]
 
 ghost use Rattle.std.specs.Prelude.{◌≡◌, ◌/◌, ◌≤◌, replicate, Some};
+ghost use Rattle.known_answers.specs.Digest.{digest_text, whole_digest};
 ghost use Rattle.known_answers.specs.Fields.{fields_text};
 ghost use Rattle.known_answers.specs.Hex.{hex};
+ghost use Rattle.known_answers.specs.Refused.{refused_text};
 ghost use Rattle.quark.specs.Instance.{instance_of, state_bytes};
+ghost use Rattle.refusals.specs.Outcome.{outcome_of};
 
 use refusals::{Refusal, number_of};
 use sponge::State;
-use std::{fmt, io};
+use std::fmt;
 use words::instances::Instance;
 
 // The first state that Appendix B lists of each instance.
@@ -30,18 +33,26 @@ impl fmt::Display for Hex<'_> {
     ghost output = { λ bytes. Some (hex bytes.0.now) };
 
     fn fmt<W: fmt::Write>(&self, f: &mut fmt::Formatter<W>) -> fmt::Result {
-        for byte in self.0 {
+        for &byte in self.0 {
             write!(f, "{byte:02X}")?;
         }
         Ok(())
     }
 }
 
-// Writes a line with the number of a refusal, which the expected text never has.
-pub fn write_refusal<T: Copy>(rt: &impl Print, answer: Result<T, Refusal>) -> io::Result<()> {
-    match answer {
-        Ok(_) => Ok(()),
-        Err(refusal) => println!(rt; "refused {}", refusal.line.number()),
+// An answer's refusal as a line with its number, which the expected text never has; no text where the call was accepted.
+#[derive(Clone, Copy)]
+pub struct Refused<T>(pub Result<T, Refusal>);
+
+impl<T: Copy> fmt::Display for Refused<T> {
+    ghost output = { λ answer. Some (refused_text (outcome_of answer.0)) };
+
+    #[tactic(auto, unfolding(crate::specs::Refused::refused_text, refusals::specs::Outcome::outcome_of))]
+    fn fmt<W: fmt::Write>(&self, f: &mut fmt::Formatter<W>) -> fmt::Result {
+        match self.0 {
+            Ok(_) => Ok(()),
+            Err(refusal) => writeln!(f, "refused {}", refusal.line.number()),
+        }
     }
 }
 
@@ -68,7 +79,7 @@ impl fmt::Display for Fields {
     }
 }
 
-// A state with these fields, whose bits are zeros.
+// A state with these fields, whose bits are zeros. The fields go in by themselves, in `State`'s order, so that a row of a table is a line.
 pub fn forged(instance: u32, phase: u32, total: u32, runs: u32, extra: u32) -> State
     ensures { result ≡ record { instance = instance; phase = phase; total = total; runs = runs; extra = extra; bits = replicate 32 0 } }
 {
@@ -103,16 +114,33 @@ pub fn digest_bytes(instance: u32) -> usize
     permutation::lines::state_bytes(instance)
 }
 
-// Writes a text, and the digest of the first bits of a message, as many as `bits`: its answer and its bytes.
-pub fn write_digest(
-    rt: &impl Print,
-    text: &str,
-    instance: u32,
-    message: &[u8],
-    bits: usize,
-) -> io::Result<()> {
-    let mut space = [0u8; 32];
+// A digest with the number of the answer; the space has zeros after it.
+#[derive(Clone, Copy)]
+pub struct Digest {
+    pub instance: u32,
+    pub number: u32,
+    pub space: [u8; 32],
+}
+
+impl fmt::Display for Digest {
+    ghost output = { λ digest. Some (digest_text digest) };
+
+    fn fmt<W: fmt::Write>(&self, f: &mut fmt::Formatter<W>) -> fmt::Result {
+        let bytes = &self.space[..digest_bytes(self.instance)];
+        write!(f, "{}, {}", self.number, Hex(bytes))
+    }
+}
+
+// The digest of the first bits of a message, as many as `bits`; zeros where it is refused.
+pub fn whole_digest(instance: u32, message: &[u8], bits: usize) -> Digest
+    ensures { result ≡ whole_digest instance message.now bits }
+{
+    let mut space = [0; 32];
     let digest = &mut space[..digest_bytes(instance)];
-    let answer = sponge::digest(instance, 8, message, bits, digest);
-    println!(rt; "{text}{}, {}", number_of(answer), Hex(digest))
+    let number = number_of(sponge::digest(instance, 8, message, bits, digest));
+    Digest {
+        instance,
+        number,
+        space,
+    }
 }

@@ -45,7 +45,8 @@ pub fn write_recall(
     Ok(state)
 }
 
-// A finish: its number and the digest. The closed state comes back.
+// A finish: its number and the digest. The closed state comes back. `write_blocks` makes another call, with another length: one function for
+// both would take the call, the length and the word.
 pub fn write_finish(rt: &impl Print, state: State) -> io::Result<State> {
     let mut space = [0u8; 32];
     let digest = &mut space[..digest_bytes(state.instance)];

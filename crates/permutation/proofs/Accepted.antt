@@ -78,10 +78,6 @@ module _ (i w l count size : ℕ) (none : steps_number i w l count size ≡ 0) w
 -- ---- the buffer by the number
 
 module _ (F : Taps → List ℕ → List ℕ) (i w number : ℕ) (bytes : List ℕ) (e : number ≡ permute_number i w (length bytes)) where
-  pub refused-bytes : (number ≡ 0 → ⊥) → bytes ≡ overwritten F i w bytes
-  unfolding overwritten
-  refused-bytes some = refused-left (permute_number i w (length bytes)) bytes (on_bytes F i bytes) (λ z. some (e ∙ z))
-
   pub accepted-bytes : number ≡ 0 → on_bytes F i bytes ≡ overwritten F i w bytes
   unfolding overwritten
   accepted-bytes none = accepted-left (permute_number i w (length bytes)) bytes (on_bytes F i bytes) (sym e ∙ none)

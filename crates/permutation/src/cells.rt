@@ -12,7 +12,7 @@ pub struct RegisterCells {
     ghost single: { Cells bits },
 }
 
-// `count` steps of an instance's, from L's value l: whole groups of one of its step widths. The instance stays a number, since `words::run`
+// `count` steps of an instance, from L's value l, in whole groups of one of its step widths. The instance stays a number, since `words::run`
 // and `words::undo` take any.
 #[derive(Clone, Copy)]
 pub struct Steps {

@@ -1,4 +1,4 @@
-// Steps, and steps undone: each direction is a type, so that the way from a buffer through the cells and the words and back is one code.
+// Steps, and steps undone: each direction is a type, so that the way from a buffer through the cells and the words and back is written once.
 ghost use Rattle.std.specs.Prelude.{◌≡◌, Bool, true, false, if◌then◌else◌};
 ghost use Rattle.quark.specs.Instance.{instance_of};
 ghost use Rattle.words.specs.Instances.{named};

@@ -66,6 +66,7 @@ const S: Taps = Taps {
 };
 
 impl Taps {
+    // The table of an instance.
     pub fn of(instance: Instance) -> &'static Taps
         ensures taps { AreTaps (named instance).taps result.now }
         ensures half_size { (64 ≤ result.now.half) × (result.now.half ≤ 128) }

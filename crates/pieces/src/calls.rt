@@ -6,9 +6,9 @@ use sponge::{Reply, State};
 // The calls so far.
 #[derive(Clone, Copy)]
 pub struct Calls {
-    // the number of the latest answer
+    // the number of the latest answer: it is what a row prints
     pub number: u32,
-    // the last digit of each answer, for the latest twelve, as many as `cuts` makes; the latest last
+    // the last digit of each answer, for the latest twelve, as many as `cuts` makes; the latest last; a line prints them as one number
     pub digits: u64,
     // the state that the latest call handed back
     pub state: State,
@@ -68,7 +68,7 @@ impl Calls {
         self.with_reply(reply)
     }
 
-    // Whether other calls came to the same state, and to the same bytes in the buffer.
+    // Whether other calls came to the same state, and to the same bytes in the buffer. No derive: number and digits are not compared.
     pub fn same_outcome(&self, other: &Calls) -> bool {
         self.state == other.state && self.space == other.space
     }

@@ -1,5 +1,6 @@
 // Messages cut into pieces, blocks of their closed states, the limits, and forged states (document 01, "Pieces and finish"; document 02,
 // 2.1). What must be written, in `stdout`, is from the implementation in hosts/rust/reference, which shares no code with this project's.
+// Instances, phases and widths are numbers throughout: wrong ones are among what is tried.
 #![tactic(auto)]
 
 mod blocks;
@@ -12,6 +13,7 @@ mod states;
 mod text;
 mod widths;
 
+use cuts::Message;
 use refusals::number_of;
 use std::io;
 
@@ -27,9 +29,20 @@ fn write_fresh_states(rt: &impl Print) -> io::Result<()> {
 
 // The first 40 and the first 67 bits of one message, at each instance.
 fn write_messages(rt: &impl Print) -> io::Result<()> {
-    for (name, instance) in [("U-QUARK", 1), ("D-QUARK", 2), ("S-QUARK", 3)] {
-        cuts::write_cuts(rt, name, instance, b"lamp log\xA5", 40)?;
-        cuts::write_cuts(rt, name, instance, b"lamp log\xA5", 67)?;
+    for (name, instance, bits) in [
+        ("U-QUARK", 1, 40),
+        ("U-QUARK", 1, 67),
+        ("D-QUARK", 2, 40),
+        ("D-QUARK", 2, 67),
+        ("S-QUARK", 3, 40),
+        ("S-QUARK", 3, 67),
+    ] {
+        let message = Message {
+            instance,
+            bytes: b"lamp log\xA5",
+            bits,
+        };
+        message.write_cuts(rt, name)?;
     }
     Ok(())
 }

@@ -11,7 +11,7 @@ fn bytes_of(instance: u32) -> [u8; 32] {
     }
 }
 
-// A state with these fields, and with bits of the instance `of`.
+// A state with these fields, and with bits of the instance `of`. The fields go in by themselves, as in `forged`.
 pub fn with_bits(of: u32, instance: u32, phase: u32, total: u32, runs: u32, extra: u32) -> State {
     State {
         bits: bytes_of(of),

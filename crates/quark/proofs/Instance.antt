@@ -2,9 +2,8 @@
 -- bytes, at most 32, is apart from that: no law of the definition's sponge needs it.
 use mathlib.Core.Bool.{Bool, true, false, cond}
 use mathlib.Core.List.{List, [], ◌∷◌}
-use mathlib.Core.Path.{◌≡◌, refl, sym, ap, ap₂, subst}
+use mathlib.Core.Path.{◌≡◌, refl, sym, subst}
 use Prim.Native.Nat.{ℕ, ◌*◌, ◌/◌, ◌<◌, ◌≤◌}
-use borrow.Author.Tests.{ne_eqb}
 use lib.Dec.{T, leb, ltb, eqb, leb→le, eqb→eq, lit≤}
 use Rattle.quark.specs.Step.{P}
 use Rattle.quark.specs.Inverse.{undo_P}
@@ -79,19 +78,6 @@ unfolding U D S
 in_bytes =
     of_each InBytes (record { whole-bytes = refl; at-most_256 = lit≤ tt }) (record { whole-bytes = refl; at-most_256 = lit≤ tt })
     (record { whole-bytes = refl; at-most_256 = lit≤ tt })
-
--- the instance of a number that was tested
-pub is_U : (i : ℕ) → i ≡ 1 → instance_of i ≡ U
-unfolding instance_of
-is_U i e = ap (λ (k : ℕ). cond (eqb k 1) U (cond (eqb k 2) D S)) e
-
-pub is_D : (i : ℕ) → i ≡ 2 → instance_of i ≡ D
-unfolding instance_of
-is_D i e = ap (λ (k : ℕ). cond (eqb k 1) U (cond (eqb k 2) D S)) e
-
-pub is_S : (i : ℕ) → (i ≡ 1 → ⊥) → (i ≡ 2 → ⊥) → instance_of i ≡ S
-unfolding instance_of
-is_S i p q = ap₂ (λ (a b : Bool). cond a U (cond b D S)) (ne_eqb i 1 p) (ne_eqb i 2 q)
 
 -- P and its inverse, on the b bits of a regular instance
 module _ (I : Instance) (R : Regular I) (s : List ℕ) (w : Wide I.b s) where

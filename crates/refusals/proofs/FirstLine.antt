@@ -29,16 +29,6 @@ none_holds (line ∷ lines) n e =
 
 -- ---- lines after other lines: the first that holds is among those in front, or none of these holds and it is among those after them
 
--- the lines after may be one row that always holds, with the number that they give
-one_row : (lines more : List (Bool × ℕ)) → first_line (lines ++ ((true, first_line more) ∷ [])) ≡ first_line (lines ++ more)
-unfolding first_line
-one_row [] more = refl
-one_row (line ∷ lines) more = ap (cond line.0 line.1) (one_row lines more)
-
-pub with_rest : (lines more : List (Bool × ℕ)) {number rest : ℕ} → number ≡ first_line (lines ++ ((true, rest) ∷ [])) → rest ≡ first_line more
-    → number ≡ first_line (lines ++ more)
-with_rest lines more e r = e ∙ ap (λ (n : ℕ). first_line (lines ++ ((true, n) ∷ []))) r ∙ one_row lines more
-
 pub holds-in_front : (lines more : List (Bool × ℕ)) → (first_line lines ≡ 0 → ⊥) → first_line (lines ++ more) ≡ first_line lines
 unfolding first_line
 holds-in_front [] more some = absurd (some refl)
@@ -66,17 +56,11 @@ both_none ((true, zero) ∷ lines) more each none = absurd (false≢true each)
 both_none ((true, suc n) ∷ lines) more each none = absurd (suc-ne-zero n none)
 both_none ((false, n) ∷ lines) more each none = both_none lines more ((and-eq-true_iff (ltb 0 n) (numbered lines)).0 each).1 none
 
--- ---- lines between others: where those in front and these give a number above 0, the lines after are not read; where they give 0, the lines
--- after decide
+-- ---- lines between others: where those in front and these give a number above 0, the lines after are not read
 
 module _ (front lines more : List (Bool × ℕ)) (number : ℕ) (e : number ≡ first_line (front ++ lines)) where
   pub decided_before : (number ≡ 0 → ⊥) → number ≡ first_line (front ++ (lines ++ more))
   decided_before some = e ∙ sym (holds-in_front (front ++ lines) more (λ z. some (e ∙ z))) ∙ ap first_line (append_assoc front lines more)
-
-  pub decided_after : numbered front ≡ true → numbered lines ≡ true → number ≡ 0 → first_line (front ++ (lines ++ more)) ≡ first_line more
-  decided_after each-front each none =
-      let parts = both_none front lines each-front (sym e ∙ none) in
-      none_in_front front (lines ++ more) each-front parts.0 ∙ none_in_front lines more each parts.1
 
 -- ---- tests of a line
 

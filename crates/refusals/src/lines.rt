@@ -2,7 +2,7 @@
 ghost use Rattle.std.specs.Prelude.{◌≡◌};
 ghost use Rattle.refusals.specs.Lines.{number, refused_by, first_line, rows};
 
-// The lines. A gap in the numbers is a line that no call tests.
+// The lines, by the numbers of documents 01 and 02.
 #[derive(Clone, Copy, Debug, PartialEq, Eq)]
 pub enum Line {
     // 1. No instance has this number.

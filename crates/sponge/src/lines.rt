@@ -1,7 +1,7 @@
 // The lines (docs/RULES.md) that read a state, a count, a total, a number of blocks or a mark, and the order of the lines in each operation.
 // Lines 1 and 4 are the permutation's. Instances and widths are numbers, and any: all lines of a call are worked out before one refuses it.
 // Each chain has all its rows, also those that others begin with, as its definition has.
-ghost use Rattle.std.specs.Prelude.{[], ◌∷◌, ◌≡◌, ◌+◌, ◌*◌, ltb};
+ghost use Rattle.std.specs.Prelude.{[], ◌∷◌, ◌≡◌, ◌+◌, ltb};
 ghost use Rattle.refusals.specs.Lines.{refused_by, first_line, line5};
 ghost use Rattle.permutation.specs.Lines.{line1};
 ghost use Rattle.sponge.specs.Marks.{state_in};

@@ -16,7 +16,7 @@ pub const EXTRA_LIMIT: u32 = 1048576;
 pub const MOST_BLOCKS: usize = 1024;
 
 // The phases. They are numbers, and compared as such: a forged state's phase is any number.
-pub const ABSORBING: u32 = 0;
+const ABSORBING: u32 = 0;
 
 pub const CLOSED: u32 = 1;
 

@@ -17,7 +17,8 @@ use Rattle.words.specs.declared.feedback.Feedback.{Feedback}
 use Rattle.words.specs.Words.{value, word_registers, registers_of}
 use Rattle.words.specs.leaf.FeedbackWords.{in_step, mixed_taps, FeedbackBits}
 use Rattle.words.specs.leaf.Groups.{Firsts, PrecedingL, Preceding}
-use Rattle.words.specs.leaf.Solving.{products_derivative_at, mixes_derivative, mixes_derivative_at, DerivativeBits, known_X, known_Y, read_by_G, read_by_H, BeforeGroup}
+use Rattle.words.specs.leaf.Solving.{products_derivative_at, mixes_derivative, mixes_derivative_at, DerivativeBits, known_X, known_Y, read_by_G, read_by_H}
+use Rattle.words.proofs.Solving.{BeforeGroup}
 use Rattle.words.proofs.Gained.{gained-x, gained-y}
 use Rattle.words.specs.leaf.TapsOf.{Grouping}
 use Rattle.words.specs.leaf.TapsOf.{LowTapsOf}

@@ -13,8 +13,18 @@ use Rattle.words.specs.declared.back.LowTaps.{LowTaps}
 use Rattle.words.specs.declared.feedback.Feedback.{Feedback}
 use Rattle.words.specs.declared.feedback.StepBits.{StepBits}
 use Rattle.words.specs.Words.{value}
-use Rattle.words.specs.leaf.Solving.{known_X, known_Y, KnownTerms, read_by_G, read_by_H, Solved, Solvable, BeforeGroup}
+use Rattle.words.specs.leaf.Solving.{known_X, known_Y, KnownTerms, read_by_G, read_by_H, Solved, Solvable}
 use Rattle.words.proofs.MovedUp.{past_end}
+
+-- the registers of t are those of s before w steps: moved up by w, with w new bits, which solve the equations, before those kept
+pub record BeforeGroup (s : RegisterWords) (words : Feedback) (d : Derivatives) (taps : LowTaps) (kept w : ℕ) (t : RegisterWords) : Type 0 where
+  pub new : StepBits
+  pub few_X : new.x < 2 ^ w
+  pub few_Y : new.y < 2 ^ w
+  pub moved_X : value t.x ≡ value s.x % 2 ^ kept * 2 ^ w + new.x
+  pub moved_Y : value t.y ≡ value s.y % 2 ^ kept * 2 ^ w + new.y
+  pub bit_X : (k : ℕ) → k < w → word_bit new.x k ≡ (known_X s words kept k + read_by_G taps d new k) % 2
+  pub bit_Y : (k : ℕ) → k < w → word_bit new.y k ≡ (known_Y s words kept k + read_by_G taps d new k + read_by_H taps d new k) % 2
 
 shr_bit : (n j k : ℕ) → word_bit (n / 2 ^ j) k ≡ word_bit n (k + j)
 shr_bit n j k = word_bit-shr n j k ∙ ap (word_bit n) (add_comm j k)

@@ -8,7 +8,7 @@ ghost use Rattle.std.specs.Prelude.{◌≡◌, ℕ, ◌+◌, ◌*◌, ◌%◌, �
 ghost use Rattle.quark.specs.Word.{word_bit};
 ghost use Rattle.words.specs.leaf.FeedbackWords.{in_step, InRegister, MixedInRegister};
 ghost use Rattle.words.specs.Instances.{named};
-ghost use Rattle.words.specs.leaf.Groups.{Width, WidthIn, Fitting, Preceding};
+ghost use Rattle.words.specs.leaf.Groups.{WidthIn, Fitting, Preceding};
 ghost use Rattle.words.specs.leaf.Solving.{products_derivative_at, mixes_derivative_at, DerivativeBits, KnownTerms, Solved, Solvable};
 
 use crate::feedback::{Feedback, StepBits, feedback_of};

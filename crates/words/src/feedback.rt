@@ -1,7 +1,8 @@
 // f, g and h for all steps of a group at once (document 01, "Taps and feedback"): bit k of a word is the bit of step k. The linear taps of
 // f and g are counted under a mask, step by step. The products, and the bits that h adds by themselves, are `&` and `^` of the register's
-// words from each tap on. X and Y go in by themselves, and not as `RegisterWords`: L is not read here. What reads taps is marked `inline(always)`, so that they become shifts by constants in each instance: without it
-// the instances take 1.4 to 2.1 times as long.
+// words from each tap on. X and Y go in by themselves, and not as `RegisterWords`: of L only its first bit in each step is read. What
+// reads taps is marked `inline(always)`, so that they become shifts by constants in each instance: without it the instances take 1.4 to
+// 2.1 times as long.
 ghost use Rattle.std.specs.Prelude.{◌≡◌, ℕ, ◌+◌, ◌*◌, ◌%◌, ◌^◌, ◌≤◌, ◌<◌};
 ghost use Rattle.quark.specs.Feedback.{sum_at};
 ghost use Rattle.quark.specs.Word.{word_bit};

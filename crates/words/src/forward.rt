@@ -1,7 +1,7 @@
 // Groups of steps taken together, eight of any instance or sixteen of S (document 01, "Steps, permutation and inverse"). A group takes the
 // new bits of all its steps from the old registers, which the half allows: highest tap + width is at most the half. L alone is extended in
 // strides.
-ghost use Rattle.std.specs.Prelude.{◌≡◌, ◌+◌, ◌*◌, ◌%◌, ◌^◌, ◌≤◌, ◌<◌};
+ghost use Rattle.std.specs.Prelude.{◌≡◌, ◌+◌, ◌*◌, ◌%◌, ◌^◌, ◌<◌};
 ghost use Rattle.words.specs.Words.{value};
 ghost use Rattle.words.specs.Instances.{named};
 ghost use Rattle.words.specs.leaf.Groups.{WidthIn, Fitting, Stepped, AfterGroup};
@@ -23,12 +23,12 @@ fn after_group(s: RegisterWords, words: Feedback, by: Split, l: u64) -> Register
     RegisterWords {
         x: push(s.x, x, by),
         y: push(s.y, y, by),
-        l: l,
+        l,
     }
 }
 
 // `WIDTH` steps of an instance.
-// What it needs of the width and of the words are two facts, which every group gives on: a type with both would be built anew after each.
+// What it needs of the width and of the words are two facts, which every group hands on: a type with both would be built anew after each.
 fn group<T: Quark, const WIDTH: u32>(s: RegisterWords) -> RegisterWords
     requires { WidthIn T.taps WIDTH × Fitting T.taps s }
     ensures { Stepped T.taps WIDTH s result }

@@ -65,7 +65,7 @@ pub fn push(r: Register, new: u64, by: Split) -> Register
     } else {
         Register {
             hi: (r.hi >> by.width) | (new << (by.kept - 64)),
-            lo: lo,
+            lo,
         }
     }
 }

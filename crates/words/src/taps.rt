@@ -1,6 +1,6 @@
 // The instances' taps as constants (document 01, "Taps and feedback"). Code that is generic over an instance is compiled for each by itself,
 // so that the taps become shifts by constants.
-ghost use Rattle.std.specs.Prelude.{◌≡◌, List, ℕ, ◌+◌, ◌%◌, ◌^◌, ◌<◌, ◌≤◌, [], ◌∷◌};
+ghost use Rattle.std.specs.Prelude.{◌≡◌, List, ℕ, ◌+◌, ◌%◌, ◌^◌, ◌<◌};
 ghost use Rattle.quark.specs.Feedback.{Taps, sum_at};
 ghost use Rattle.quark.specs.Instance as quark;
 ghost use Rattle.quark.specs.Word.{word_bit};
@@ -10,7 +10,7 @@ ghost use Rattle.words.specs.declared.taps.MixedTaps.{MixedTaps};
 ghost use Rattle.words.specs.Words.{value};
 ghost use Rattle.words.specs.leaf.FeedbackWords.{in_step, MaskSums};
 ghost use Rattle.words.specs.leaf.Groups.{WidthIn};
-ghost use Rattle.words.specs.leaf.TapsOf.{TapsOf, f_U, g_U, mixed_U, masks_U, low_U, tapsOf_U, f_D, g_D, mixed_D, masks_D, low_D, tapsOf_D, f_S, g_S, mixed_S, masks_S, low_S, tapsOf_S};
+ghost use Rattle.words.specs.leaf.TapsOf.{TapsOf, f_U, g_U, mixed_U, masks_U, low_U, taps_of_U, f_D, g_D, mixed_D, masks_D, low_D, taps_of_D, f_S, g_S, mixed_S, masks_S, low_S, taps_of_S};
 
 use crate::Register;
 use crate::back::LowTaps;
@@ -141,7 +141,7 @@ impl Quark for U {
         taps_at(x, &[1, 4, 25, 31, 56]) ^ taps_at(y, &[2, 10, 43, 59])
     }
 
-    ghost of = { tapsOf_U };
+    ghost of = { taps_of_U };
 }
 
 impl Quark for D {
@@ -200,7 +200,7 @@ impl Quark for D {
         linear_past(x, y, D::MASKS, 11, 9)
     }
 
-    ghost of = { tapsOf_D };
+    ghost of = { taps_of_D };
 }
 
 impl Quark for S {
@@ -254,5 +254,5 @@ impl Quark for S {
         taps_at(x, &[1, 7, 47, 58, 90, 105]) ^ taps_at(y, &[3, 18, 34, 71, 80, 91, 111])
     }
 
-    ghost of = { tapsOf_S };
+    ghost of = { taps_of_S };
 }

@@ -1,4 +1,4 @@
--- The word form's registers, and the cells in which it leaves them. Only the contracts of private functions cite these forms.
+-- The words that the word form gives. Only the contracts of private functions cite this form.
 use Rattle.std.specs.Prelude.{ℕ, Bool, cond}
 use Rattle.quark.specs.Feedback.{Taps}
 use Rattle.words.specs.declared.RegisterWords.{RegisterWords}

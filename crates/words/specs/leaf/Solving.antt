@@ -77,13 +77,3 @@ pub record Solvable (taps : LowTaps) (w : ℕ) : Type 0 where
   pub past_X : w ≤ taps.g + taps.x
   pub past_Y : w ≤ taps.g + taps.y
   pub past_G : w ≤ taps.g + taps.g
-
--- the registers of t are those of s before w steps: moved up by w, with w new bits, which solve the equations, before those kept
-pub record BeforeGroup (s : RegisterWords) (words : Feedback) (d : Derivatives) (taps : LowTaps) (kept w : ℕ) (t : RegisterWords) : Type 0 where
-  pub new : StepBits
-  pub few_X : new.x < 2 ^ w
-  pub few_Y : new.y < 2 ^ w
-  pub moved_X : value t.x ≡ value s.x % 2 ^ kept * 2 ^ w + new.x
-  pub moved_Y : value t.y ≡ value s.y % 2 ^ kept * 2 ^ w + new.y
-  pub bit_X : (k : ℕ) → k < w → word_bit new.x k ≡ (known_X s words kept k + read_by_G taps d new k) % 2
-  pub bit_Y : (k : ℕ) → k < w → word_bit new.y k ≡ (known_Y s words kept k + read_by_G taps d new k + read_by_H taps d new k) % 2

@@ -1,5 +1,6 @@
 -- What the taps of an instance meet, so that groups of its steps are taken and undone in words: the laws of the trait `Quark`, and that U, D
 -- and S meet them. They are tests that are computed. Only the contracts of private functions cite these forms.
+-- The proofs stand here and not in `proofs/`, since the ghost members of a trait cite them.
 use mathlib.Core.Logic.{⊎_elim}
 use mathlib.Core.Bool.{Bool}
 use mathlib.Core.List.{List, [], ◌∷◌}
@@ -185,9 +186,9 @@ masking_U : Masking U.taps masks_U
 unfolding U places_from put_if linear_taps exchange
 masking_U = record { f_places = refl; g_places = refl; f_narrow = lit< tt; g_narrow = lit< tt }
 
-pub tapsOf_U : TapsOf U.taps 68 f_U g_U mixed_U masks_U low_U
+pub taps_of_U : TapsOf U.taps 68 f_U g_U mixed_U masks_U low_U
 unfolding U exchange mixed_taps test_all
-tapsOf_U = record {
+taps_of_U = record {
   half_is = refl;
   sized = (lit< tt, lit≤ tt);
   F_is = refl;
@@ -243,9 +244,9 @@ masking_D : Masking D.taps masks_D
 unfolding D places_from put_if linear_taps exchange
 masking_D = record { f_places = refl; g_places = refl; f_narrow = lit< tt; g_narrow = lit< tt }
 
-pub tapsOf_D : TapsOf D.taps 88 f_D g_D mixed_D masks_D low_D
+pub taps_of_D : TapsOf D.taps 88 f_D g_D mixed_D masks_D low_D
 unfolding D exchange mixed_taps test_all
-tapsOf_D = record {
+taps_of_D = record {
   half_is = refl;
   sized = (lit< tt, lit≤ tt);
   F_is = refl;
@@ -305,9 +306,9 @@ masking_S : Masking S.taps masks_S
 unfolding S places_from put_if linear_taps exchange
 masking_S = record { f_places = refl; g_places = refl; f_narrow = lit< tt; g_narrow = lit< tt }
 
-pub tapsOf_S : TapsOf S.taps 128 f_S g_S mixed_S masks_S low_S
+pub taps_of_S : TapsOf S.taps 128 f_S g_S mixed_S masks_S low_S
 unfolding S exchange mixed_taps test_all
-tapsOf_S = record {
+taps_of_S = record {
   half_is = refl;
   sized = (lit< tt, lit≤ tt);
   F_is = refl;

@@ -1,12 +1,9 @@
 -- `first` meets its contract: a line that does not hold is passed.
-use mathlib.Core.Path.{refl, sym, ◌∙◌}
+use mathlib.Core.Path.{sym, ◌∙◌}
 use native.Mathlib.Omega.{arith}
 use Rattle.refusals.specs.Lines.{refused_by}
 use Rattle.refusals.proofs.Rows.{decided, passed, none_left}
 use Rattle.refusals.proofs.lines.first.Goals as goal
-
-pub loop-holds-init : goal.loop-holds-init
-loop-holds-init c = refl
 
 pub returns-then-holds : goal.returns-then-holds
 unfolding refused_by

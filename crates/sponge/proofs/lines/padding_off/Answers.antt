@@ -18,9 +18,6 @@ small c =
     let some : 0 < c.rate-r.result = omega (arith, R.some_rate) in
     (mod-lt c.args.total some, omega (arith, R.rate_fits, (in_bytes i).at-most_256))
 
-pub rate-r-requires : goal.rate-r-requires
-rate-r-requires c = tt
-
 pub nonzero_rem-begun : goal.nonzero_rem-begun
 nonzero_rem-begun c = omega (arith, small c)
 

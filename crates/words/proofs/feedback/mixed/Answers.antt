@@ -1,10 +1,11 @@
 -- `words::feedback::mixed` meets its contract.
-use mathlib.Core.Path.{◌≡◌, ◌∙◌}
+use mathlib.Core.Path.{ap, ◌≡◌, ◌∙◌}
 use Prim.Native.Nat.{ℕ, ◌%◌}
 use native.Mathlib.Nat.{mod-add-mod}
+use native.Mathlib.Omega.{arith}
 use Rattle.quark.specs.Word.{word_bit}
 use Rattle.words.specs.Words.{value}
-use Rattle.words.specs.leaf.FeedbackWords.{mixes}
+use Rattle.words.specs.leaf.FeedbackWords.{in_step, mixes}
 use Rattle.words.proofs.Sums.{◌&◌, ◌⊕◌, bit-&, bit-⊕, window_bit}
 use Rattle.words.proofs.feedback.mixed.Goals as goal
 
@@ -21,7 +22,7 @@ returns c k h =
     let t = a.taps in
     let y3 = window_bit (value a.y) t.y_low k h c.window-y3.ensures in
     let x25 = window_bit (value a.x) t.x_low k h c.window-x25.ensures in
-    let x46 = window_bit (value a.x) t.x_mid k h c.window-x46.ensures in
+    let x46 : word_bit c.window-x46.result k ≡ in_step k a.x t.x_mid = window_bit (value a.x) _ k h c.window-x46.ensures ∙ ap (in_step k a.x) (omega arith) in
     let x55 = window_bit (value a.x) t.x_high k h c.window-x55.ensures in
     let y59 = window_bit (value a.y) t.y_high k h c.window-y59.ensures in
     law a.l _ _ _ _ _ k ∙ (λ i. mixes (word_bit a.l k) (y3 i) (x25 i) (x46 i) (x55 i) (y59 i) % 2)

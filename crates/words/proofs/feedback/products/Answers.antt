@@ -1,11 +1,12 @@
 -- `words::feedback::products` meets its contract.
-use mathlib.Core.Path.{◌≡◌, ◌∙◌}
+use mathlib.Core.Path.{ap, ◌≡◌, ◌∙◌}
 use Prim.Native.Nat.{ℕ, ◌%◌}
 use native.Mathlib.Nat.{mod-add-mod}
+use native.Mathlib.Omega.{arith}
 use lib.ListN.{get_or}
 use Rattle.quark.specs.Word.{word_bit}
 use Rattle.words.specs.Words.{value}
-use Rattle.words.specs.leaf.FeedbackWords.{products, products_at}
+use Rattle.words.specs.leaf.FeedbackWords.{in_step, products, products_at}
 use Rattle.words.proofs.Sums.{◌&◌, ◌⊕◌, bit-&, bit-⊕, window_bit}
 use Rattle.words.proofs.feedback.products.Goals as goal
 
@@ -24,7 +25,7 @@ returns c k h =
     let n = value c.args.r in
     let a : ℕ → ℕ = λ i. get_or c.args.a.now i 0 in
     let e1 = window_bit n (a 1) k h c.window-a1.ensures in
-    let e3 = window_bit n (a 3) k h c.window-a3.ensures in
+    let e3 : word_bit c.window-a3.result k ≡ in_step k c.args.r (a 3) = window_bit n _ k h c.window-a3.ensures ∙ ap (in_step k c.args.r) (omega arith) in
     let e4 = window_bit n (a 4) k h c.window-a4.ensures in
     let e5 = window_bit n (a 5) k h c.window-a5.ensures in
     let e6 = window_bit n (a 6) k h c.window-a6.ensures in

@@ -1,0 +1,2 @@
+-- Text of a byte.
+pub mod HexText
