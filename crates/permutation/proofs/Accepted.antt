@@ -5,7 +5,7 @@ use native.Mathlib.Omega.{arith}
 use borrow.Author.Tests.{not-false, eqb-true, ltb-false}
 use Rattle.refusals.specs.Lines.{first_line, line5}
 use Rattle.refusals.proofs.FirstLine.{none_holds, neither, right_length}
-use Rattle.refusals.proofs.Outcome.{refused-left, accepted-left}
+use Rattle.refusals.proofs.Outcome.{accepted-left}
 use Rattle.quark.specs.Feedback.{Taps}
 use Rattle.quark.specs.Instance.{is_instance, is_width, state_bytes}
 use Rattle.quark.specs.Word.{word_bits}

@@ -1,12 +1,12 @@
 -- Bits in cells and in words: the number that some cells hold, and the cells with a number's bits in them.
 use Rattle.std.specs.Prelude.{◌≡◌, ℕ, suc, ◌+◌, ◌-◌, ◌*◌, ◌%◌, ◌^◌, ◌<◌, ◌≤◌, Bool, true, false, List, [], ◌∷◌, ◌++◌, length, get_or, take, drop, set}
-use mathlib.Core.List.{append_assoc, append-nil}
+use mathlib.Core.List.{append_assoc}
 use mathlib.Core.Path.{refl, sym, ap, ap₂, ◌∙◌, subst}
 use native.Mathlib.Numerals.{add-one}
 use native.Mathlib.Nat.{mod-eq_of_lt, add_comm, pow-suc}
 use native.Mathlib.Omega.{arith}
 use lib.Arith.{digits_lt}
-use lib.ListN.{length-append, drop_of_length-le}
+use lib.ListN.{length-append}
 use lib.Bits.{bit_or, or_shifted}
 use lib.Pow.{pow-add, pow_mono}
 use Rattle.std.specs.Prelude.{reverse, if◌then◌else◌}
@@ -83,12 +83,6 @@ written_more s word i h =
     ∙ sym (append_assoc (word_bits i word) (word_bit word i ∷ []) (drop (suc i) s))
     ∙ ap (λ (t : List ℕ). t ++ drop (suc i) s) (sym (snoc-word_bits i word))
     ∙ ap (λ (n : ℕ). word_bits n word ++ drop n s) (sym (add-one i))
-
--- and all of them
-pub written_all : (s : List ℕ) (word i : ℕ) → i ≡ length s → word_bits i word ++ drop i s ≡ word_bits (length s) word
-written_all s word i e =
-    let l : length s ≤ i = omega arith in
-    ap (λ (t : List ℕ). word_bits i word ++ t) (drop_of_length-le s l) ∙ append-nil (word_bits i word) ∙ ap (λ (n : ℕ). word_bits n word) e
 
 -- ---- X and Y taken as words from the cells, stepped, and written back
 

@@ -17,7 +17,7 @@ use Rattle.quark.specs.Sponge.{Counted, run_P}
 use Rattle.quark.specs.Step.{P}
 use Rattle.quark.proofs.Bits.{Wide, parity_lt}
 use Rattle.quark.proofs.Bytes.{wide_bits_of}
-use Rattle.quark.proofs.Instance.{regular, in_bytes, P-wide}
+use Rattle.quark.proofs.Instance.{regular, in_bytes}
 use Rattle.permutation.specs.Lines.{line1, line4}
 use Rattle.permutation.specs.Permute.{permute_number, on_bytes, overwritten}
 use Rattle.permutation.proofs.Accepted.{accepted-bytes}
@@ -159,10 +159,6 @@ module _ (s : State) where
       ap (λ (l : List ℕ). l ++ drop size s.bits) (eo ∙ permute_accepted s.instance w (take size s.bits) ready.has_instance ready.has_width m)
       ∙ ap (λ (k : ℕ). on_bytes P s.instance (take k s.bits) ++ drop k s.bits) es
       ∙ bytes-permuted s.instance s.bits n ready.zero_past
-
-  pub wide_ran : Wide (instance_of s.instance).b (run_P (instance_of s.instance) (content_of s).sponge).bits
-  unfolding run_P
-  wide_ran = P-wide (instance_of s.instance) (regular s.instance) (content_of s).sponge.bits (wide_content s)
 
 -- ---- the first k bits of some bytes are taken
 

@@ -1,11 +1,11 @@
 -- Giving out blocks: a run of P for each, then the state's last r bits as bytes.
-use mathlib.Core.List.{List, [], ◌++◌, append-nil}
+use mathlib.Core.List.{List, [], ◌++◌}
 use mathlib.Core.Path.{◌≡◌, refl, sym, ap, ap₂, ◌∙◌}
 use Prim.Native.Nat.{ℕ, zero, suc, ◌+◌, ◌*◌, ◌-◌, ◌/◌, ◌≤◌, ◌<◌}
 use native.Mathlib.Nat.{zero-mul, add-mul, mul-le-mul_right}
 use native.Mathlib.Numerals.{add-one}
 use native.Mathlib.Omega.{arith}
-use lib.ListN.{length, take, drop, length-append, length-drop, drop_of_length-le}
+use lib.ListN.{length, take, drop, length-append, length-drop}
 use lib.Seq.{paste, take_at, drop_at, drop-drop, take_all}
 use Rattle.quark.specs.Bytes.{tabulate, bytes_of}
 use Rattle.quark.specs.Instance.{Instance, U, D, S, instance_of, state_bytes}
@@ -113,15 +113,6 @@ module _ (s : State) (d buffer : List ℕ) (t : State) (k : ℕ) (g : BlocksOut 
   pub blocks_runs : t.runs ≡ s.runs + k
   unfolding with_sponge state_with content_of
   blocks_runs = ap (λ (y : State). y.runs) g.state-is ∙ runs-squeezed (instance_of s.instance) k (content_of s).sponge
-
-  -- all of them: the buffer is full
-  pub blocks_given : length d ≡ k * ((instance_of s.instance).r / 8)
-      → buffer ≡ bytes_of (k * ((instance_of s.instance).r / 8)) (output (instance_of s.instance) k (run_P (instance_of s.instance) (content_of s).sponge))
-  blocks_given n =
-      let size = k * ((instance_of s.instance).r / 8) in
-      let out = output (instance_of s.instance) k (run_P (instance_of s.instance) (content_of s).sponge) in
-      let full : length d ≤ size = omega arith in
-      g.buffer-is ∙ ap (λ (l : List ℕ). bytes_of size out ++ l) (drop_of_length-le d full) ∙ append-nil (bytes_of size out)
 
   -- one block more, from the state u after P
   module _ (u : State) (e : u ≡ with_sponge t (run_P (instance_of t.instance) (content_of t).sponge)) where

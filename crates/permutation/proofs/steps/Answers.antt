@@ -1,7 +1,6 @@
 -- `steps` meets its contract: where no line holds the steps are taken from the mirrored start value, and L after them is mirrored back.
 use Rattle.std.specs.Prelude.{false}
 use mathlib.Core.Path.{sym, ap, ◌∙◌}
-use native.Mathlib.Omega.{arith}
 use Rattle.refusals.specs.Lines.{refused_by}
 use Rattle.refusals.specs.Outcome.{accepted, outcome_of}
 use Rattle.refusals.proofs.Outcome.{handed_on, some_line, accepted-outcome, refused-left, accepted-left}
@@ -28,13 +27,6 @@ invariant_of-steps c = record { allowed = accepted-steps _ _ _ _ _ (sym c.in_ok-
 pub overwrite-after-requires : goal.overwrite-after-requires
 unfolding refused_by
 overwrite-after-requires c = accepted-state _ _ _ _ _ (sym c.in_ok-steps_line.ensures)
-
--- L after the steps has ten bits, and so has the start value
-pub mirrored-requires : goal.mirrored-requires
-unfolding refused_by
-mirrored-requires c =
-    let start = accepted-steps _ _ _ _ _ (sym c.in_ok-steps_line.ensures) _ c.mirrored-start.ensures in
-    omega (arith, start.small, c.overwrite-after.ensures.small)
 
 pub returns : goal.returns
 unfolding refused_by outcome_of steps_outcome steps_bytes

@@ -6,9 +6,6 @@ use Rattle.permutation.proofs.buffer.overwrite.Goals as goal
 pub load-requires : goal.load-requires
 load-requires g c = load_fits _ c.args.buffer.now c.requires
 
-pub invariant_of-state : goal.invariant_of-state
-invariant_of-state g c = record { small = c.args.steps.allowed.small }
-
 pub invariant_of-state-2 : goal.invariant_of-state-2
 invariant_of-state-2 g c = record { single = load_cells _ c.args.buffer.now c.requires _ c.load.ensures }
 

@@ -1,7 +1,6 @@
 -- `serial::sum_at` meets its contract: after k passes the sum is that at the first k taps.
-use Rattle.std.specs.Prelude.{ℕ, ◌%◌, ◌≤◌, List, length, get_or}
-use mathlib.Core.Path.{refl, ap, ◌∙◌}
-use lib.Seq.{take_all}
+use Rattle.std.specs.Prelude.{get_or}
+use mathlib.Core.Path.{refl}
 use native.Mathlib.Omega.{arith}
 use Rattle.quark.specs.Bytes.{bit}
 use Rattle.quark.specs.Feedback.{sum_at}
@@ -19,10 +18,3 @@ loop-tap-preserved c =
     let register = c.args.register.now in
     let taps = c.args.taps.now in
     rw (sum_at_next (bit register) taps l.tap-index (omega arith)) (l.invariant ⊕ single (c.requires.cells (get_or taps l.tap-index 0)))
-
-pub returns : goal.returns
-returns c =
-    let l = c.loop-tap in
-    let taps = c.args.taps.now in
-    let e : length taps ≤ l.tap-index = omega arith in
-    l.invariant.same ∙ ap (λ (ts : List ℕ). sum_at (bit c.args.register.now) ts % 2) (take_all l.tap-index taps e)

@@ -4,9 +4,6 @@ use native.Mathlib.Omega.{arith}
 use Rattle.sponge.proofs.MarkBytes.{last-named, last-not_named, none_left}
 use Rattle.sponge.proofs.marks.latest.Goals as goal
 
-pub loop-j-init : goal.loop-j-init
-loop-j-init c = (omega arith, refl)
-
 pub returns-then-is_named : goal.returns-then-is_named
 returns-then-is_named c =
     last-named _ _ _ _ _ c.mark_at-mark.ensures (omega arith) _ c.loop-j.invariant.1 (sym c.is_named.ensures ∙ c.if-is_named.true)

@@ -31,16 +31,6 @@ feedback_at-requires-2 c =
       cells = (λ k. rw (c.split_at.ensures.back, y_part R) (bits_at w.1 k));
     }
 
-pub h_at-h-requires : goal.h_at-h-requires
-h_at-h-requires c =
-    let full : length c.args.self.now.bits ≡ 256 = omega arith in
-    let R = serial_cells c.args.instance c.args.self.now c.of-taps.result.now c.of-taps.ensures.taps full in
-    let w = sized R in record {
-      x_len = (rw (c.split_at.ensures.front, x_part R) w.wide_X.0, rw (c.split_at.ensures.back, y_part R) w.wide_Y.0);
-      cells = (λ k. rw (c.split_at.ensures.front, x_part R) (bits_at w.wide_X.1 k));
-      cells_2 = (λ k. rw (c.split_at.ensures.back, y_part R) (bits_at w.wide_Y.1 k));
-    }
-
 pub returns : goal.returns
 unfolding f g registers loaded
 returns c =

@@ -1,13 +1,10 @@
 -- `add_bit` meets its contract: a bit is added in its byte, and the other bits stay. An index under the mask 7 is its remainder by 8.
 use mathlib.Core.Path.{◌≡◌, refl}
 use Prim.Native.Nat.{ℕ, ◌<◌}
-use native.Mathlib.Nat.{le_trans}
 use native.Mathlib.Omega.{arith}
 use mir.Val.{Fits}
 use mir.Syntax.{w8}
 use borrow.Author.Rules.{rules}
-use lib.Bits.{and_le_r}
-use lib.Dec.{lit≤}
 use lib.ListN.{length, get_or}
 use Rattle.quark.specs.Instance.{instance_of}
 use Rattle.quark.proofs.Instance.{in_bytes, regular}
@@ -26,9 +23,6 @@ bounds-self-at c = let s = c.args.self.now.state in omega (arith, within s.insta
 
 pub bounds-self-at-2 : goal.bounds-self-at-2
 bounds-self-at-2 c = let s = c.args.self.now.state in omega (arith, within s.instance s.total c.bit_index-at.ensures)
-
-pub overflow_sub-self : goal.overflow_sub-self
-overflow_sub-self c = le_trans (and_le_r c.bit_index-at.result _) (lit≤ tt)
 
 pub invariant_of-self : goal.invariant_of-self
 invariant_of-self c =

@@ -24,12 +24,6 @@ overflow_add-end c = omega (arith, within c.args.self.now.state.instance c.last_
 pub slice_bounds-put-end : goal.slice_bounds-put-end
 slice_bounds-put-end c = omega (arith, within c.args.self.now.state.instance c.last_block-from.ensures c.block_bytes.ensures)
 
-pub put-requires : goal.put-requires
-put-requires c =
-    let s = c.args.self.now.state in
-    let n : length s.bits ≡ 32 = search rules in
-    omega (arith, ap length (last-part s.instance s.bits n _ _ c.last_block-from.ensures c.block_bytes.ensures) ∙ last-size s.instance s.bits n, c.requires)
-
 pub returns : goal.returns
 unfolding content_of
 returns c =

@@ -1,5 +1,5 @@
 -- `give_blocks` meets its contract: each pass gives out one block more (`BlocksOut` of proofs/Squeezing.antt).
-use mathlib.Core.Path.{◌≡◌, ap, ◌∙◌, subst}
+use mathlib.Core.Path.{◌≡◌, ap, ◌∙◌}
 use Prim.Native.Nat.{ℕ, ◌-◌, ◌*◌, ◌/◌}
 use native.Mathlib.Omega.{arith}
 use mir.Val.{Fits}
@@ -10,7 +10,7 @@ use lib.Seq.{paste}
 use Rattle.quark.specs.Bytes.{bytes_of}
 use Rattle.quark.specs.Instance.{instance_of}
 use Rattle.sponge.specs.Soundness.{content_of}
-use Rattle.sponge.proofs.Squeezing.{block_fits, BlocksOut, blocks_none, blocks_runs, blocks_given, run-instance, blocks_next}
+use Rattle.sponge.proofs.Squeezing.{block_fits, blocks_none, blocks_runs, run-instance, blocks_next}
 use Rattle.sponge.proofs.pieces.Running.give_blocks.Goals as goal
 
 pub loop-block-init : goal.loop-block-init
@@ -22,11 +22,6 @@ loop-block-init c =
 
 pub run_p-requires : goal.run_p-requires
 run_p-requires c = omega (arith, blocks_runs _ _ _ _ _ c.loop-block.invariant, c.requires.1, c.loop-block-test.true)
-
-pub overflow_mul-block : goal.overflow_mul-block
-overflow_mul-block c =
-    let fits = block_fits c.args.self.state.instance c.loop-block.block c.args.count c.loop-block-test.true c.block_bytes-step.ensures c.requires.0 in
-    omega (arith, fits)
 
 pub give-requires : goal.give-requires
 give-requires c =
@@ -44,12 +39,3 @@ loop-block-preserved c =
     blocks_next _ _ _ _ _ loop.invariant u c.run_p.ensures give.new.buffer
     (give.ensures ∙ ap (λ (q : ℕ). paste loop.buffer (loop.block * q) (bytes_of (U.r / 8) (drop (U.b - U.r) (content_of u).sponge.bits)) (U.r / 8)) step.ensures)
     give.auto.buffer
-
-pub returns : goal.returns
-returns c =
-    let s = c.args.self.state in
-    let all : c.loop-block.block ≡ c.args.count = omega arith in
-    let g = subst (λ (k : ℕ). BlocksOut s c.args.buffer.now c.loop-block.buffer c.loop-block.self.state k) all c.loop-block.invariant in record {
-      left = g.state-is;
-      bytes = blocks_given _ _ _ _ _ g c.requires.0;
-    }

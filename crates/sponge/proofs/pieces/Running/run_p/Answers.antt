@@ -9,7 +9,7 @@ use Rattle.quark.specs.Sponge.{run_P}
 use Rattle.quark.specs.Instance.{instance_of, state_bytes}
 use Rattle.quark.proofs.Instance.{in_bytes}
 use Rattle.sponge.specs.Soundness.{content_of}
-use Rattle.sponge.proofs.Contents.{ran_bytes, wide_ran, zeros_of_wide, with_sponge_lem}
+use Rattle.sponge.proofs.Contents.{ran_bytes, with_sponge_lem}
 use Rattle.sponge.proofs.Ready.{Ready}
 use Rattle.sponge.proofs.pieces.Running.run_p.Goals as goal
 
@@ -29,18 +29,6 @@ slice_bounds-permute-end c =
     let s = c.args.self.now.state in
     let n : length s.bits ≡ 32 = search rules in
     sym (length-take-le _ _ (front s.instance c.state_bytes-size.ensures n))
-
-pub invariant_of-self : goal.invariant_of-self
-invariant_of-self c =
-    let r = c.args.self.now in
-    let s = r.state in
-    let n : length s.bits ≡ 32 = search rules in
-    let ready : Ready s r.width = record { has_instance = r.has_instance; has_width = r.has_width; zero_past = r.zero_past } in
-    record {
-      has_instance = r.has_instance;
-      has_width = r.has_width;
-      zero_past = zeros_of_wide s.instance _ (wide_ran s) (ran_bytes s r.width c.state_bytes-size.result c.state_bytes-size.ensures c.permute.ensures.bytes ready n);
-    }
 
 pub returns : goal.returns
 unfolding run_P content_of

@@ -10,7 +10,7 @@ use Rattle.quark.specs.Bytes.{tabulate, bits_of}
 use Rattle.quark.specs.Instance.{instance_of}
 use Rattle.sponge.specs.Taking.{take_bit, take_bits}
 use Rattle.sponge.specs.Soundness.{content_of, state_with}
-use Rattle.sponge.proofs.Contents.{state-with_content, bit-lt, after_bits, total-after_bits, runs-after_bits, next_bit}
+use Rattle.sponge.proofs.Contents.{state-with_content, bit-lt, total-after_bits, runs-after_bits, next_bit}
 use Rattle.sponge.proofs.pieces.Running.take_bits.Goals as goal
 
 pub loop-i-init : goal.loop-i-init
@@ -20,9 +20,6 @@ loop-i-init c =
     let n : length s.bits ≡ 32 = search rules in
     let fit : (j : ℕ) → Fits w8 (get_or s.bits j 0) = λ j. search rules in
     sym (state-with_content s n (λ j. (fit j).fits) c.args.self.zero_past)
-
-pub bit_at-requires : goal.bit_at-requires
-bit_at-requires c = omega (arith, c.requires)
 
 pub take_bit-requires : goal.take_bit-requires
 take_bit-requires c =
@@ -44,9 +41,3 @@ loop-i-preserved c =
     c.take_bit.ensures
     ∙ ap (λ (x : ℕ). state_with t.instance t.phase (take_bit (instance_of t.instance) (content_of t) x)) c.bit_at.ensures
     ∙ next_bit s c.args.bytes.now i t c.loop-i.invariant
-
-pub returns : goal.returns
-returns c =
-    let s = c.args.self.state in
-    let all : c.loop-i.i ≡ c.args.count = omega arith in
-    c.loop-i.invariant ∙ ap (λ (k : ℕ). state_with s.instance s.phase (after_bits s c.args.bytes.now k)) all
