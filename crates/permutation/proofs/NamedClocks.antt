@@ -189,9 +189,9 @@ accepted-exactly i w l count size = (
         start = omega (arith, range.start);
         few = omega (arith, range.few);
         whole = range.whole;
-        length = accepted-state i w l count size none;
+        whole_state = accepted-state i w l count size none;
       },
-  λ call. none_steps call.instance call.width (record { start = omega (arith, call.start); few = omega (arith, call.few); whole = call.whole }) call.length,
+  λ call. none_steps call.instance call.width (record { start = omega (arith, call.start); few = omega (arith, call.few); whole = call.whole }) call.whole_state,
 )
 
 refused-leaves : RefusedLeaves

@@ -23,7 +23,7 @@ pub record LawfulCall (i w l count size : ℕ) : Type 0 where
   pub start : l ≤ 1023
   pub few : count ≤ rounds (instance_of i).taps
   pub whole : count % w ≡ 0
-  pub length : size ≡ state_bytes i
+  pub whole_state : size ≡ state_bytes i
 
 -- such calls, and no others
 unfoldable pub AcceptedExactly : Type 0
