@@ -5,6 +5,7 @@ use mathlib.Core.Path.{refl, sym, ap, ap₂, ◌∙◌, subst}
 use native.Mathlib.Omega.{arith}
 use lib.ListN.{take-append-drop}
 use lib.Seq.{length-take-le, take_at}
+use Rattle.std.proofs.lemmas.List.{drop-replicate}
 use Rattle.quark.specs.Bytes.{bits_of, bytes_of}
 use Rattle.quark.specs.Feedback.{Taps}
 use Rattle.quark.specs.Step.{Registers, steps, steps_L, all_ones, loaded, stored, rounds, P}
@@ -42,7 +43,7 @@ cells_of n z s w = bits_at (bits-append w.1 (bits-replicate z (omega arith)))
 -- a buffer of a state's length, loaded
 module _ (i : ℕ) (bytes : List ℕ) (n : length bytes ≡ state_bytes i) where
   abbrev cells : List ℕ
-  cells = bits_of (8 * length bytes) bytes ++ replicate (256 - 8 * length bytes) 0
+  cells = bits_of (8 * length bytes) bytes ++ drop (8 * length bytes) (replicate 256 0)
 
   width : 8 * length bytes ≡ (instance_of i).b
   unfolding state_bytes
@@ -52,13 +53,15 @@ module _ (i : ℕ) (bytes : List ℕ) (n : length bytes ≡ state_bytes i) where
   load_fits = omega (arith, width, (in_bytes i).at-most_256)
 
   loaded-cells : Cells cells
-  loaded-cells = cells_of (8 * length bytes) (256 - 8 * length bytes) (bits_of (8 * length bytes) bytes) (wide_bits_of (8 * length bytes) bytes)
+  loaded-cells =
+      let n = 8 * length bytes in
+      subst (λ (rest : List ℕ). Cells (bits_of n bytes ++ rest)) (sym (drop-replicate n 256 0)) (cells_of n (256 - n) (bits_of n bytes) (wide_bits_of n bytes))
 
   -- its bits stand in the first b cells
   first-cells : take (instance_of i).b cells ≡ bits_of (instance_of i).b bytes
   first-cells =
       let s = bits_of (8 * length bytes) bytes in
-      let z : List ℕ = replicate (256 - 8 * length bytes) 0 in
+      let z : List ℕ = drop (8 * length bytes) (replicate 256 0) in
       take_at s z (instance_of i).b ((wide_bits_of (8 * length bytes) bytes).0 ∙ width) ∙ ap (λ (k : ℕ). bits_of k bytes) width
 
   -- the cells after loading

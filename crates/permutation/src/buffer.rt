@@ -48,9 +48,11 @@ pub fn overwrite<D: Direction>(steps: Steps, buffer: &mut [u8]) -> u32
     ensures { BufferReached D.inverse steps.instance steps.l steps.count buffer.old buffer.new result }
 {
     let mut state = RegisterCells {
-        bits: bytes::load(buffer),
+        bits: [0; 256],
         l: RegisterL { value: steps.l },
     };
+    // The cells are lent where they stay: handed back by `load` they would be copied twice, and the stack be half a kilobyte more.
+    bytes::load(buffer, &mut state.bits);
     run::<D>(&mut state, steps);
     bytes::store(&state.bits, buffer);
     state.l.value

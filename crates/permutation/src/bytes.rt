@@ -1,21 +1,18 @@
 // The byte form and single bits (document 01, "Steps, permutation and inverse"): bit i of a state is in byte i div 8 with weight 2 to the
 // (7 - i mod 8). A buffer has as many bytes as b / 8, at most 32; its bits go into the first b of 256 cells.
 // The library has no method for the bits of a byte.
-ghost use Rattle.std.specs.Prelude.{◌≡◌, ◌-◌, ◌*◌, ◌<◌, ◌≤◌, ◌++◌, length, replicate};
+ghost use Rattle.std.specs.Prelude.{◌≡◌, ◌*◌, ◌<◌, ◌≤◌, ◌++◌, drop, length};
 ghost use Rattle.quark.specs.Bytes.{bits_of, byte_at, bytes_of};
 ghost use Rattle.permutation.specs.leaf.Cells.{Cells};
 
-// The bits of a buffer, in cells that are all zero after them.
-pub fn load(buffer: &[u8]) -> [u8; 256]
+// Writes the bits of a buffer into the first cells.
+pub fn load(buffer: &[u8], bits: &mut [u8; 256])
     requires { 8 * length buffer.now ≤ 256 }
-    ensures { result
-        ≡ bits_of (8 * length buffer.now) buffer.now ++ replicate (256 - 8 * length buffer.now) 0 }
+    ensures { bits.new ≡ bits_of (8 * length buffer.now) buffer.now ++ drop (8 * length buffer.now) bits.old }
 {
-    let mut bits = [0; 256];
     for (i, bit) in bits[..8 * buffer.len()].iter_mut().enumerate() {
         *bit = (buffer[i / 8] >> (7 - i % 8)) % 2;
     }
-    bits
 }
 
 // Byte j of the cells: each bit goes after those before it, so that the first gets the weight 128.

@@ -39,7 +39,7 @@ pub fn buffer_line(instance: u32, width: u32, length: usize) -> Result<(), Line>
 fn steps_off(instance: u32, width: u32, l: u32, count: u32) -> bool
     ensures { result ≡ line20 instance width l count }
 {
-    (l > 1023) | (count > rounds(Instance::from(instance))) | !count.is_multiple_of(width)
+    l > 1023 || count > rounds(Instance::from(instance)) || !count.is_multiple_of(width)
 }
 
 // Refuses `count` steps, on a buffer of `length` bytes, from L's start value l by the first of lines 1, 4, 20 and 5 that holds.

@@ -4,8 +4,8 @@ use mathlib.Core.List.{List, [], ◌∷◌, ◌++◌, append_assoc}
 use mathlib.Core.Path.{◌≡◌, sym, ap, ap₂, ◌∙◌}
 use Prim.Native.Nat.{ℕ, zero, suc, ◌+◌, ◌*◌, ◌-◌, ◌<◌, ◌≤◌}
 use native.Mathlib.Omega.{arith}
-use lib.ListN.{length, take, drop, length-append, length-drop}
-use lib.Seq.{paste, take-length, take_all, take-paste, drop-paste, drop-drop}
+use lib.ListN.{length, get_or, take, drop, length-append, length-drop}
+use lib.Seq.{paste, take-length, take_all, take-paste, drop-paste, drop-drop, get_or-take, length-take-le}
 use Rattle.sponge.specs.declared.State.{State}
 use Rattle.sponge.specs.Bytes.{same}
 use Rattle.sponge.specs.Marks.{four_bytes, mark_fields, mark_of, name_in, mark_at, with_mark, up_to_latest, found}
@@ -61,6 +61,15 @@ parts_are_mark buffer j name s {total} {runs} {extra} et er ee w =
 pub mark-part : (buffer : List ℕ) (j : ℕ) {mark : List ℕ} → mark ≡ take 64 (take (length buffer - 64 * j) (drop (64 * j) buffer)) → mark ≡ mark_at buffer j
 unfolding mark_at
 mark-part buffer j e = e ∙ ap (take 64) (take_all (length buffer - 64 * j) (drop (64 * j) buffer) (rw length-drop (omega arith)))
+
+-- the name in a mark: its size, and byte j
+pub name-size : (mark : List ℕ) → length mark ≡ 64 → length (name_in mark) ≡ 16
+unfolding name_in
+name-size mark size = length-take-le 16 mark (omega arith)
+
+pub name-byte : (mark : List ℕ) (j : ℕ) → j < 16 → get_or (name_in mark) j 0 ≡ get_or mark j 0
+unfolding name_in
+name-byte mark j h = get_or-take 16 mark j 0 h
 
 -- ---- the latest mark with a name
 
