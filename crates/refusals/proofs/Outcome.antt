@@ -6,7 +6,7 @@ use native.Mathlib.Nat.{suc-ne-zero}
 use native.Mathlib.Omega.{arith}
 use borrow.Author.Tests.{eq-eqb, ne_eqb}
 use lib.Dec.{eqb}
-use Rattle.std.specs.Prelude.{Result, Ok, Err, IsErrAnd}
+use Rattle.std.specs.Prelude.{Result, Ok, Err, IsErrAnd, MatchResult}
 use Rattle.refusals.specs.declared.Refusal.{Refusal}
 use Rattle.refusals.specs.declared.lines.Line.{Line}
 use Rattle.refusals.specs.declared.lines.Line.TheVariants.{UnknownInstance, UnsoundState, WrongPhase, UnknownWidth, WrongLength, CountOverBytes, TotalOverLimit, PaddedLength, WrongJournalLength, BrokenLayout, NotFollowing, DifferentSeal, NoSuchRecord, BlocksOutOfRange, ExtraOverLimit, BlankKey, WrongMarkBuffer, NoSuchMark, NoFreeMark, StepsOutOfRange}
@@ -72,6 +72,13 @@ module _ (line : Line) (lines : ℕ) (e : refused_by {A = Unit {0}} (Err line) �
   unfolding outcome_of refused_by
   handed_on values (Ok given) is = elim is [ ]
   handed_on {A} values (Err r) is = ap (λ (r : Refusal). outcome_of {A = A} (Err r)) is ∙ refused-outcome values (number line) lines e (no_line_0 line)
+
+-- the number of an answer whose refusal is a `Refusal`, as `number_of` gives it, is its outcome's
+pub number_of_answer : {A : Type 0} (answer : Result A Refusal) (n : ℕ) → MatchResult answer (λ _. n ≡ 0) (λ r. n ≡ number r.line)
+    → n ≡ number_of (outcome_of answer)
+unfolding number_of outcome_of
+number_of_answer (Ok values) n e = e
+number_of_answer (Err r) n e = e
 
 pub number_of_outcome : {A : Type 0} (number : ℕ) (values : A) → number_of (outcome number values) ≡ number
 unfolding number_of outcome

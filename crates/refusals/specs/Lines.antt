@@ -36,6 +36,11 @@ refused_by (Err line) = number line
 unfoldable pub line5 : (length right : ℕ) → Bool
 line5 length right = not (eqb length right)
 
+-- lines in checking order, whatever a line is: a refusal by the first that holds, none where none does
+unfoldable pub first_holding : {L : Type 0} → List (Bool × L) → Result (Unit {0}) L
+first_holding [] = Ok tt
+first_holding (line ∷ lines) = cond line.0 (Err line.1) (first_holding lines)
+
 -- lines in checking order, each with its number: the number of the first that holds, 0 where none does
 unfoldable pub first_line : List (Bool × ℕ) → ℕ
 first_line [] = 0

@@ -1,8 +1,9 @@
 // How a call is refused (docs/RULES.md): by a line, and at a place. The crates above use these.
 #![tactic(auto)]
 
-ghost use Rattle.std.specs.Prelude.{◌≡◌, Some};
-ghost use Rattle.refusals.specs.Outcome.{outcome_of, number_of, refusal_text};
+ghost use Rattle.std.specs.Prelude.{◌≡◌, cond, Some, MatchResult};
+ghost use Rattle.refusals.specs.Lines.{number};
+ghost use Rattle.refusals.specs.Outcome.{refusal_text};
 
 pub mod lines;
 
@@ -35,13 +36,42 @@ impl fmt::Display for Refusal {
     }
 }
 
-// The number that an answer stands for: 0 where the call was accepted, else the line's. It refuses nothing. It is for C and for printed text,
-// where an answer is one number.
-pub fn number_of<T: Copy>(answer: Result<T, Refusal>) -> u32
-    ensures { result ≡ number_of (outcome_of answer) }
+// The line's number, without the place.
+impl From<Refusal> for u32 {
+    ghost from_gives = { λ refusal result. result ≡ number refusal.line };
+
+    fn from(refusal: Refusal) -> u32 {
+        refusal.line.into()
+    }
+}
+
+// The number that an answer stands for: 0 where the call was accepted, else the refusal's. A refusal is a `Refusal`, a `Line`, a number of the
+// caller's own, or what else gives a `u32`. It refuses nothing. It is for C and for printed text, where an answer is one number.
+pub fn number_of<T: Copy, R: Into<u32>>(answer: Result<T, R>) -> u32
+    ensures { MatchResult answer (λ _. result ≡ 0) (λ refusal. R.converts refusal result) }
 {
     match answer {
         Ok(_) => 0,
-        Err(refusal) => refusal.line.number(),
+        Err(refusal) => refusal.into(),
+    }
+}
+
+#[cfg(test)]
+mod tests {
+    use super::*;
+    use lines::first;
+
+    // A line may be a number of the caller's own, whichever it is.
+    #[tactic(auto, using(crate::proofs::Rows::number_or_rest))]
+    fn first_of_two(holds: bool, number: u32, rest: u32) -> u32
+        ensures { result ≡ cond holds number rest }
+    {
+        number_of(first(&[(holds, number), (true, rest)]))
+    }
+
+    #[test]
+    fn any_number_refuses() {
+        prove_eq!(first_of_two(true, 99, u32::MAX), 99);
+        prove_eq!(first_of_two(false, 99, u32::MAX), u32::MAX);
     }
 }

@@ -1,6 +1,6 @@
 // The lines by which a call is refused (docs/RULES.md), and their numbers.
 ghost use Rattle.std.specs.Prelude.{◌≡◌};
-ghost use Rattle.refusals.specs.Lines.{number, refused_by, first_line, rows};
+ghost use Rattle.refusals.specs.Lines.{number, first_holding};
 
 // The lines, by the numbers of documents 01 and 02.
 #[derive(Clone, Copy, Debug, PartialEq, Eq)]
@@ -56,9 +56,19 @@ impl Line {
     }
 }
 
-// Refuses by the first of some lines that holds, each with its test, in checking order.
-pub fn first(lines: &[(bool, Line)]) -> Result<(), Line>
-    ensures { refused_by result ≡ first_line (rows lines.now) }
+// The line's number.
+impl From<Line> for u32 {
+    ghost from_gives = { λ line result. result ≡ number line };
+
+    fn from(line: Line) -> u32 {
+        line.number()
+    }
+}
+
+// Refuses by the first of some lines that holds, each with its test, in checking order. A line is a `Line`, a number of the caller's own,
+// or what else can be copied.
+pub fn first<L: Copy>(lines: &[(bool, L)]) -> Result<(), L>
+    ensures { result ≡ first_holding lines.now }
 {
     for &(holds, line) in lines {
         if holds {

@@ -1,8 +1,10 @@
 -- The part that is lent, and what is left of the space, are zeros before the call.
 use Rattle.std.proofs.Common.{arith, ℕ, List, take, ◌≡◌, ◌≤◌, ◌++◌, refl, replicate, drop}
 use Rattle.std.proofs.lemmas.List.{take-replicate, drop-replicate}
+use mathlib.Core.Path.{ap, ◌∙◌}
 use Rattle.quark.specs.Instance.{state_bytes}
 use Rattle.refusals.specs.Outcome.{number_of}
+use Rattle.refusals.proofs.Outcome.{number_of_answer}
 use Rattle.sponge.specs.Outcomes.{digest_outcome, digest_bytes}
 use Rattle.known_answers.specs.Digest.{whole_digest}
 use Rattle.known_answers.proofs.whole_digest.Goals as goal
@@ -18,5 +20,5 @@ made i message bits count size number lent same fits answer bytes all =
 
 pub returns : goal.returns
 returns c =
-    let answer = rw (c.digest.ensures.answer) at c.number_of-number.ensures in
+    let answer = number_of_answer _ _ c.number_of-number.ensures ∙ ap number_of c.digest.ensures.answer in
     made _ _ c.args.bits _ _ _ _ c.digest_bytes.ensures.value c.digest_bytes.ensures.bound answer c.digest.ensures.bytes (omega arith)

@@ -1,9 +1,10 @@
 -- `steps_line` meets its contract: the rows are the lines in checking order.
 use Rattle.refusals.specs.Lines.{first_line, rows, number, line5}
+use Rattle.refusals.proofs.Rows.{first_number}
 use Rattle.permutation.specs.Lines.{line1, line4}
 use Rattle.permutation.specs.Steps.{steps_number}
 use Rattle.permutation.proofs.lines.steps_line.Goals as goal
 
 pub returns : goal.returns
 unfolding steps_number first_line rows number line1 line4 line5
-returns c = cc
+returns c = cc (first_number _ _ c.first.ensures)
